@@ -1,0 +1,18 @@
+-- Lists of whole numbers, as a lent slice of i64 holds them.
+use mathlib.Core.List.{List, [], _∷_}
+use Prim.Native.Nat.{ℕ, suc, _≤_, _<_}
+use lib.IntN.{ℤ, pos, natAbs}
+use lib.ListN.{length, getD}
+
+-- the cell at a place
+abbrev pub cell : List ℤ → ℕ → ℤ
+cell l j = getD l j (pos 0)
+
+-- every cell is at most B in size
+pub record Bounded (B : ℕ) (l : List ℤ) : Type 0 where
+  pub most : (j : ℕ) → j < length l → natAbs (cell l j) ≤ B
+
+-- g at each place and its element: what a pass in place leaves
+unfoldable pub mapAt {ℓ} : {A : Type ℓ} → (ℕ → A → A) → List A → List A
+mapAt g [] = []
+mapAt g (x ∷ xs) = g 0 x ∷ mapAt (λ n. g (suc n)) xs
