@@ -27,15 +27,11 @@ module _ (s : List ℕ) where
   field-join i n zero = rw add-zero (omega arith)
   field-join i n (suc m) = rw (add-suc, field-join i n m, pow-suc, add-assoc, ← mul-assoc) (omega arith)
 
-  -- of w bits the n from bit k on: those behind them shifted out, those before them masked off
-  pub field-part : (i w k n : ℕ) → k + n ≤ w → field s i w / 2 ^ (w - k - n) % 2 ^ n ≡ field s (i + k) n
-  field-part i w k n h =
-      let m = w - k - n in
-      let e : w ≡ k + n + m = omega arith in
-      ap (λ (x : ℕ). field s i x / 2 ^ m % 2 ^ n) e
-      ∙ ap (λ (x : ℕ). x / 2 ^ m % 2 ^ n) (field-join i (k + n) m)
-      ∙ ap (λ (x : ℕ). x % 2 ^ n) (high (field s i (k + n)) m (field-lt (i + (k + n)) m))
-      ∙ ap (λ (x : ℕ). x % 2 ^ n) (field-join i k n)
+  -- of k + n + m bits the n in the middle: those behind them shifted out, those before them masked off
+  pub field-part : (i k n m : ℕ) → field s i (k + n + m) / 2 ^ m % 2 ^ n ≡ field s (i + k) n
+  field-part i k n m =
+      ap (λ (x : ℕ). x / 2 ^ m % 2 ^ n) (field-join i (k + n) m)
+      ∙ ap (λ (x : ℕ). x % 2 ^ n) (high (field s i (k + n)) m (field-lt (i + (k + n)) m) ∙ field-join i k n)
       ∙ low (field s i k) n (field-lt (i + k) n)
 
   -- past the end every field is 0
@@ -84,5 +80,5 @@ module _ {s : List ℕ} where
   pub is-joined : {i n j m w a b : ℕ} → IsField s i n a → IsField s j m b → j ≡ i + n → w ≡ n + m → IsField s i w (a * 2 ^ m + b)
   is-joined {i} {n} {j} {m} x y e f = is-field (rw (f, field-join s i n m, ← e, ← x .value, ← y .value))
 
-  pub is-part : {i w r j : ℕ} (k n : ℕ) → IsField s i w r → k + n ≤ w → j ≡ i + k → IsField s j n (r / 2 ^ (w - k - n) % 2 ^ n)
-  is-part {i} {w} k n x h e = is-field (rw (x .value, e) (field-part s i w k n h))
+  pub is-part : {i w r j n : ℕ} (k m : ℕ) → IsField s i w r → w ≡ k + n + m → j ≡ i + k → IsField s j n (r / 2 ^ m % 2 ^ n)
+  is-part {i} {n = n} k m x f e = is-field (rw (x .value, f, e) (field-part s i k n m))

@@ -47,3 +47,25 @@ pub fn u32_at(s: &[u8], at: usize) -> usize
 {
     bytes_at(s, at, 4)
 }
+
+// The bit i.
+pub fn bit(s: &[u8], i: usize) -> usize
+    ensures { λ r. ⌜ IsField (now (s .entry)) i 1 r ⌝ }
+{
+    (u8_at(s, i / 8) >> (7 - i % 8)) % 2
+}
+
+// The nibble k: the four bits from bit 4k on.
+pub fn nibble(s: &[u8], k: usize) -> usize
+    ensures { λ r. ⌜ IsField (now (s .entry)) (4 * k) 4 r ⌝ }
+{
+    (u8_at(s, k / 2) >> (4 - 4 * (k % 2))) % 16
+}
+
+// u(n) at the bit i: the four bytes from that of bit i on hold it, with the bits behind it to shift out and those before it to mask off.
+pub fn field(s: &[u8], i: usize, n: usize) -> usize
+    requires { ⌜ n ≤ 24 ⌝ }
+    ensures { λ r. ⌜ IsField (now (s .entry)) i n r ⌝ }
+{
+    (u32_at(s, i / 8) >> (32 - i % 8 - n)) % (1 << n)
+}
