@@ -5,7 +5,8 @@ use mathlib.Core.List.{List}
 use native.Mathlib.Omega.{arith}
 use native.Mathlib.Nat.{add-zero, add-suc, add-assoc, mul-assoc, pow-suc, zero-div, div-div-eq-div-mul, lt-of-lt-of-le}
 use lib.Dec.{lit<, lit≤}
-use lib.ListN.{length, getD, List·getD-eq-default}
+use lib.ListN.{length, getD, take, drop, List·getD-eq-default}
+use lib.Seq.{getD-drop, getD-take}
 use lib.Pow.{pow-mono, high, low}
 use Rattle.bits.specs.Fields.{bitAt, field, IsField}
 
@@ -27,12 +28,12 @@ module _ (s : List ℕ) where
   field-join i n zero = rw add-zero (omega arith)
   field-join i n (suc m) = rw (add-suc, field-join i n m, pow-suc, add-assoc, ← mul-assoc) (omega arith)
 
-  -- of k + n + m bits the n in the middle: those behind them shifted out, those before them masked off
-  pub field-part : (i k n m : ℕ) → field s i (k + n + m) / 2 ^ m % 2 ^ n ≡ field s (i + k) n
-  field-part i k n m =
-      ap (λ (x : ℕ). x / 2 ^ m % 2 ^ n) (field-join i (k + n) m)
-      ∙ ap (λ (x : ℕ). x % 2 ^ n) (high (field s i (k + n)) m (field-lt (i + (k + n)) m) ∙ field-join i k n)
-      ∙ low (field s i k) n (field-lt (i + k) n)
+  -- and so u(n) is what is left when the m bits behind it are shifted out, and u(m) when the n bits before it are masked off
+  pub field-first : (i n m : ℕ) → field s i (n + m) / 2 ^ m ≡ field s i n
+  field-first i n m = rw (field-join i n m) (high (field s i n) m (field-lt (i + n) m))
+
+  pub field-last : (i n m : ℕ) → field s i (n + m) % 2 ^ m ≡ field s (i + n) m
+  field-last i n m = rw (field-join i n m) (low (field s i n) m (field-lt (i + n) m))
 
   -- past the end every field is 0
   pub field-past : (i n : ℕ) → 8 * length s ≤ i → field s i n ≡ 0
@@ -58,6 +59,22 @@ module _ (s : List ℕ) where
   pub field-byte : (at : ℕ) → getD s at 0 < 256 → field s (8 * at) 8 ≡ getD s at 0
   field-byte at b = first-bits at 8 (lit≤ tt) b ∙ omega arith
 
+  -- in a part of the stretch that starts at byte a, and in its first e bytes
+  pub field-drop : (a i n : ℕ) → field (drop a s) i n ≡ field s (8 * a + i) n
+  unfolding field bitAt
+  field-drop a i zero = refl
+  field-drop a i (suc n) =
+      let q : (8 * a + i + n) / 8 ≡ a + (i + n) / 8 = omega arith in
+      let r : (8 * a + i + n) % 8 ≡ (i + n) % 8 = omega arith in
+      rw (field-drop a i n, getD-drop, q, r)
+
+  pub field-take : (e i n : ℕ) → i + n ≤ 8 * e → field (take e s) i n ≡ field s i n
+  unfolding field bitAt
+  field-take e i zero h = refl
+  field-take e i (suc n) h =
+      let b : (i + n) / 8 < e = omega arith in
+      rw (field-take e i n (omega arith), getD-take)
+
 -- ---- the same of a reader's answer
 
 module _ {s : List ℕ} where
@@ -80,5 +97,12 @@ module _ {s : List ℕ} where
   pub is-joined : {i n j m w a b : ℕ} → IsField s i n a → IsField s j m b → j ≡ i + n → w ≡ n + m → IsField s i w (a * 2 ^ m + b)
   is-joined {i} {n} {j} {m} x y e f = is-field (rw (f, field-join s i n m, ← e, ← x .value, ← y .value))
 
+  -- the parts of a field that was read: the first n bits, the last n, and n in the middle
+  pub is-first : {i n w r : ℕ} (m : ℕ) → IsField s i w r → w ≡ n + m → IsField s i n (r / 2 ^ m)
+  is-first {i} {n} m x f = is-field (rw (x .value, f) (field-first s i n m))
+
+  pub is-last : {i w r j n : ℕ} (k : ℕ) → IsField s i w r → w ≡ k + n → j ≡ i + k → IsField s j n (r % 2 ^ n)
+  is-last {i} {n = n} k x f e = is-field (rw (x .value, f, e) (field-last s i k n))
+
   pub is-part : {i w r j n : ℕ} (k m : ℕ) → IsField s i w r → w ≡ k + n + m → j ≡ i + k → IsField s j n (r / 2 ^ m % 2 ^ n)
-  is-part {i} {n = n} k m x f e = is-field (rw (x .value, f, e) (field-part s i k n m))
+  is-part {n = n} k m x f e = is-last k (is-first {n = k + n} m x f) refl e
