@@ -78,11 +78,14 @@ module _ (s : List ℕ) where
 -- ---- the same of a reader's answer
 
 module _ {s : List ℕ} where
-  is-field : {i n r : ℕ} → r ≡ field s i n → IsField s i n r
+  pub is-field : {i n r : ℕ} → r ≡ field s i n → IsField s i n r
   is-field {i} {n} e = record { value = e; below = rw e (field-lt s i n) }
 
   pub is-byte : (at : ℕ) → getD s at 0 < 256 → IsField s (8 * at) 8 (getD s at 0)
   is-byte at b = is-field (sym (field-byte s at b))
+
+  pub is-moved : {i j n r : ℕ} → IsField s i n r → j ≡ i → IsField s j n r
+  is-moved x e = rw e x
 
   pub is-within : {i n m r : ℕ} → IsField s i n r → n ≤ m → r < 2 ^ m
   is-within x h = lt-of-lt-of-le (x .below) (pow-mono h)
