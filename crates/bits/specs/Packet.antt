@@ -1,5 +1,5 @@
 -- C.3: the packet header, over the widths of its fields.
-use Prim.Native.Nat.{ℕ, _+_, _*_, _^_, _≤_, _<_}
+use Prim.Native.Nat.{ℕ, _+_, _*_, _/_, _^_, _≤_, _<_}
 use mathlib.Core.Path.{_≡_}
 use mathlib.Core.Bool.{cond, _&&_}
 use mathlib.Core.List.{List}
@@ -8,7 +8,7 @@ use Rattle.bits.specs.Fields.{field}
 use Rattle.bits.specs.declared.packet.Widths.{Widths}
 use Rattle.bits.specs.declared.packet.PacketHeader.{PacketHeader}
 
--- Table C.4: Ldat u(15), Lcnt u(13), Lsgn u(11)
+-- Table C.4, short packet header: Ldat u(15), Lcnt u(13), Lsgn u(11)
 abbrev pub shortWidths : Widths
 shortWidths = record { dat = 15; cnt = 13; sgn = 11 }
 
@@ -20,9 +20,12 @@ longWidths = record { dat = 20; cnt = 20; sgn = 15 }
 abbrev pub widthsFor : ℕ → ℕ → ℕ → Widths
 widthsFor wf nc lh = cond (ltb (wf * nc) 32752 && eqb lh 0) shortWidths longWidths
 
--- how many bits the header has: Dr is u(1)
+-- Table C.4: Dr u(1) and the three lengths, 40 bits or 56
 abbrev pub headerBits : Widths → ℕ
 headerBits w = 1 + w .dat + w .cnt + w .sgn
+
+abbrev pub headerBytes : Widths → ℕ
+headerBytes w = headerBits w / 8
 
 -- Table C.4: Dr[p,s], Ldat[p,s], Lcnt[p,s], Lsgn[p,s], from the first bit of the byte `place` on
 abbrev pub headerAt : List ℕ → ℕ → Widths → PacketHeader
@@ -36,7 +39,7 @@ headerAt s place w =
 
 -- ---- what the readers ask and answer
 
--- widths that a reader of fields takes
+-- widths within the reach of a reader of fields
 pub record Fit (w : Widths) : Type 0 where
   pub dat : w .dat ≤ 24
   pub cnt : w .cnt ≤ 24
@@ -46,6 +49,7 @@ pub record WidthsOf (wf nc lh : ℕ) (r : Widths) : Type 0 where
   pub widths : r ≡ widthsFor wf nc lh
   pub fit : Fit r
 
+-- the bounds follow from the header, and stand beside it for the callers' sums
 pub record IsHeader (s : List ℕ) (place : ℕ) (w : Widths) (r : PacketHeader) : Type 0 where
   pub header : r ≡ headerAt s place w
   pub flag : r .dr < 2

@@ -1,8 +1,8 @@
 // The packet header of C.3: one reader over the widths of its fields, which serves the short header and the long one.
 use crate::cursor::Cursor;
 ghost use mathlib.Core.Path.{_≡_};
-ghost use Prim.Native.Nat.{_<_, _/_, _^_};
-ghost use Rattle.bits.specs.Packet.{shortWidths, longWidths, headerBits, Fit, WidthsOf, IsHeader};
+ghost use Prim.Native.Nat.{_<_, _^_};
+ghost use Rattle.bits.specs.Packet.{shortWidths, longWidths, headerBytes, Fit, WidthsOf, IsHeader};
 
 // How many bits a packet header's three lengths have.
 pub struct Widths {
@@ -51,7 +51,7 @@ impl Widths {
     // How many bytes the header has.
     pub fn bytes(self) -> usize
         requires { ⌜ Fit self ⌝ }
-        ensures { λ r. ⌜ r ≡ headerBits self / 8 ⌝ }
+        ensures { λ r. ⌜ r ≡ headerBytes self ⌝ }
     {
         (1 + self.dat + self.cnt + self.sgn) / 8
     }
