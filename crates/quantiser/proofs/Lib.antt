@@ -3,3 +3,4 @@ pub mod Sum
 pub mod Near
 pub mod Laws
 pub mod Planes
+pub mod Words

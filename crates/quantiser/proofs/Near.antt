@@ -158,6 +158,9 @@ uniform-is M T v h hv =
     let w = summed M T v h hv in
     sym (ap (λ (x : ℕ). v * 2 ^ (M + 1) / x) (omega (arith, k .base)) ∙ ap (λ (x : ℕ). x / k .c) (sym (w .sum)) ∙ digits-div (uniform M T v) (w .below))
 
+pub uniform-small : (M T v : ℕ) → T < M → v < 2 ^ (M - T) → uniform M T v < 2 ^ M
+uniform-small M T v h hv = let w = summed M T v h hv in sum-below (coded M T h) v (uniform M T v) (w .rest) hv (w .sum)
+
 -- ---- D.5, and D.3 after it
 
 -- what the division of D.5 leaves
@@ -268,7 +271,7 @@ inverse-small q M T v h = pick q (decLe M T)
     pick : (q : Bool) → Dec (M ≤ T) → inverse q M T v < 2 ^ M
     pick q (yes g) = omega (arith, inverse-off q M T v g, pow-pos M)
     pick false (no g) = deadzone-small M T v (lt-of-not-le g) h
-    pick true (no g) = let w = summed M T v (lt-of-not-le g) h in sum-below (coded M T (lt-of-not-le g)) v (uniform M T v) (w .rest) h (w .sum)
+    pick true (no g) = uniform-small M T v (lt-of-not-le g) h
 
 -- there and back
 pub inverse-near : (q : Bool) (M T d : ℕ) → d < 2 ^ max M T → Near (2 ^ T - 1) d (inverse q M T (forward q M T d))
