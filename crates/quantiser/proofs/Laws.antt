@@ -1,12 +1,12 @@
 -- The laws of the quantisers over whole numbers, for either quantiser, every M and every T. Assumes nothing.
-use mathlib.Core.Path.{_≡_, refl, sym, ap, _∙_, subst}
-use mathlib.Core.Bool.{Bool, true, false}
-use Prim.Native.Nat.{ℕ, zero, suc, _+_, _-_, _*_, _^_, _≤_, _<_, max}
-use native.Mathlib.Nat.{lt-of-lt-of-le, lt-of-le-of-lt, zero-mul, mul-le-mul-right}
+use mathlib.Core.Path.{_≡_, refl, ap, _∙_}
+use mathlib.Core.Bool.{Bool}
+use Prim.Native.Nat.{ℕ, suc, _+_, _-_, _^_, _≤_, _<_, max}
+use native.Mathlib.Nat.{lt-of-lt-of-le, zero-mul, mul-le-mul-right}
 use native.Mathlib.Omega.{arith}
-use lib.IntN.{ℤ, pos, negsuc, negℤ, natAbs, _*ℤ_}
-use lib.Pow.{pow-pos, pow-mono, shl-lt, ones-lt}
-use Rattle.whole.specs.Numbers.{Within, Near, bySize, signed}
+use lib.IntN.{ℤ, pos, negsuc, negℤ, natAbs}
+use lib.Pow.{pow-mono, shl-lt, ones-lt}
+use Rattle.whole.specs.Numbers.{Within, bySize, signed}
 use Rattle.whole.proofs.Machine.{size-neg, size-mul}
 use Rattle.whole.proofs.Within.{within-le, within-mul, within-size, signed-size}
 use Rattle.quantiser.specs.Inverse.{inverse, coefficientOf, scaled, Carried}
@@ -68,6 +68,9 @@ module _ (q : Bool) (M : ℕ) where
   unfolding coefficientOf
   coefficient-exact i h = same-by (inverse q M 0) i (inverse-exact q M (natAbs i) h)
 
+  pub both-exact : (c : ℤ) → natAbs c < 2 ^ M → coefficientOf q M 0 (indexOf q M 0 c) ≡ c
+  both-exact c h = ap (coefficientOf q M 0) (index-exact c h) ∙ coefficient-exact c h
+
 -- ---- times 2 ^ Fq
 
 pub scaled-zero : (Fq : ℕ) → scaled Fq (pos 0) ≡ pos 0
@@ -77,6 +80,18 @@ scaled-zero Fq = ap pos (zero-mul (2 ^ Fq))
 pub scaled-small : (Fq k : ℕ) (c : ℤ) → natAbs c < 2 ^ k → natAbs (scaled Fq c) < 2 ^ (k + Fq)
 unfolding scaled
 scaled-small Fq k c h = rw (size-mul c (2 ^ Fq)) (shl-lt k Fq h)
+
+-- ---- sizes for words: of an index that a data subpacket can carry
+
+pub carried-index : {M T v : ℕ} → Carried M T v → v < 2 ^ 31
+carried-index {M} {T} k = lt-of-lt-of-le (k .below) (pow-mono {i = M - T} {j = 31} (omega (arith, k .count)))
+
+module _ (q : Bool) {M T : ℕ} (i : ℤ) (k : Carried M T (natAbs i)) where
+  pub carried-small : natAbs (coefficientOf q M T i) < 2 ^ 31
+  carried-small = lt-of-lt-of-le (coefficient-small q M T i (k .below)) (pow-mono {j = 31} (k .count))
+
+  pub carried-scaled : {Fq F : ℕ} → Fq ≤ F → natAbs (scaled Fq (coefficientOf q M T i)) < 2 ^ (31 + F)
+  carried-scaled {Fq} {F} h = lt-of-lt-of-le (scaled-small Fq 31 (coefficientOf q M T i) carried-small) (pow-mono (omega arith))
 
 -- ---- a band's number
 

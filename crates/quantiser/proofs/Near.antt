@@ -1,47 +1,43 @@
 -- The quantisers over sizes: a size below 2 ^ max(M, T) comes back at most 2 ^ T - 1 away, its index has M - T planes, and what an index of M - T
 -- planes gives is below 2 ^ M. Assumes nothing.
-use mathlib.Core.Path.{_≡_, refl, sym, ap, _∙_, subst}
-use mathlib.Core.Bool.{Bool, true, false, not, cond, _&&_}
+use mathlib.Core.Path.{_≡_, sym, ap, _∙_, subst}
+use mathlib.Core.Bool.{Bool, true, false, and-false}
 use Prim.Native.Nat.{ℕ, zero, suc, _+_, _-_, _*_, _/_, _%_, _^_, _≤_, _<_, max}
-use native.Mathlib.Nat.{le-refl, le-of-lt, lt-of-not-le, zero-lt-suc, lt-of-lt-of-le, lt-of-le-of-lt, max-eq-left, max-eq-right, not-suc-le-zero}
-use native.Mathlib.Nat.{zero-mul, one-mul, mul-one, add-mul, suc-mul, mul-suc, mul-comm, mul-assoc, mul-right-comm, mul-le-mul-left, mul-le-mul-right, mul-lt-mul-of-pos-right}
-use native.Mathlib.Nat.{div-add-mod', mod-lt, sub-zero, sub-add-cancel, pow-suc, div-one}
+use native.Mathlib.Nat.{le-refl, le-of-lt, lt-of-not-le, lt-of-lt-of-le, zero-lt-suc, not-suc-le-zero, max-eq-left, max-eq-right, sub-zero, sub-add-cancel, pow-suc}
+use native.Mathlib.Nat.{zero-mul, one-mul, add-mul, suc-mul, mul-suc, mul-comm, mul-assoc, mul-right-comm, mul-le-mul-left, mul-le-mul-right, mul-lt-mul-of-pos-right}
+use native.Mathlib.Nat.{div-one, div-add-mod', mod-lt}
 use native.Mathlib.Decide.{decLe}
 use native.Mathlib.Omega.{arith}
 use borrow.Author.Tests.{lt-ltb, le-ltb, ne-eqb}
-use lib.Dec.{ltb, eqb}
+use lib.Dec.{ltb}
 use lib.Arith.{digits-div, lt-one}
-use lib.Pow.{pow-pos, pow-mono, pow-add, suc-ones, shl-lt, shr-lt}
+use lib.Pow.{pow-pos, pow-mono, pow-add, suc-ones, shr-lt}
 use Rattle.whole.specs.Numbers.{Near}
-use Rattle.quantiser.specs.Inverse.{included, deadzone, series, uniform, inverse}
+use Rattle.quantiser.specs.Inverse.{deadzone, series, uniform, inverse}
 use Rattle.quantiser.specs.Forward.{deadzoneIndex, uniformIndex, forward}
 use Rattle.quantiser.proofs.Sum.{series-zero, series-divided}
 
 -- ---- the definitions, with their cases known
 
-either-same : (t : Bool) → (t && false) ≡ false
-either-same true = refl
-either-same false = refl
-
 -- the index 0
 pub deadzone-zero : (M T : ℕ) → deadzone M T 0 ≡ 0
 unfolding deadzone
-deadzone-zero M T = rw (either-same (ltb T M))
+deadzone-zero M T = rw (and-false (ltb T M))
 
 pub uniform-zero : (M T : ℕ) → uniform M T 0 ≡ 0
 unfolding uniform
-uniform-zero M T = rw (either-same (ltb T M))
+uniform-zero M T = rw (and-false (ltb T M))
 
 -- no planes are coded
-pub deadzone-off : (M T v : ℕ) → M ≤ T → deadzone M T v ≡ 0
+deadzone-off : (M T v : ℕ) → M ≤ T → deadzone M T v ≡ 0
 unfolding deadzone
 deadzone-off M T v h = rw (le-ltb T M h)
 
-pub uniform-off : (M T v : ℕ) → M ≤ T → uniform M T v ≡ 0
+uniform-off : (M T v : ℕ) → M ≤ T → uniform M T v ≡ 0
 unfolding uniform
 uniform-off M T v h = rw (le-ltb T M h)
 
-pub uniform-index-off : (M T d : ℕ) → M ≤ T → uniformIndex M T d ≡ 0
+uniform-index-off : (M T d : ℕ) → M ≤ T → uniformIndex M T d ≡ 0
 unfolding uniformIndex
 uniform-index-off M T d h = rw (le-ltb T M h)
 
@@ -55,21 +51,17 @@ unfolding uniform
 uniform-on M T zero h = uniform-zero M T ∙ sym (ap (series (2 ^ (M - T + 1))) (zero-mul (2 ^ T)) ∙ series-zero (2 ^ (M - T + 1)))
 uniform-on M T (suc v) h = rw (lt-ltb T M h, ne-eqb (suc v) 0 (λ e. omega arith))
 
-pub uniform-index-on : (M T d : ℕ) → T < M → uniformIndex M T d ≡ (d * 2 ^ (M - T + 1) - d + 2 ^ M) / 2 ^ (M + 1)
-unfolding uniformIndex
-uniform-index-on M T d h = rw (lt-ltb T M h)
-
 -- ---- M above T, with the powers that hang on them: b = c + 1 is the base of D.3's sum
 
-pub record Coded (M T : ℕ) : Type 0 where
-  pub c : ℕ
-  pub base : suc c ≡ 2 ^ (M - T + 1)
-  pub half : 2 ^ (M - T) * 2 ≡ suc c
-  pub whole : 2 ^ T * suc c ≡ 2 ^ (M + 1)
-  pub top : 2 ^ M * 2 ≡ 2 ^ (M + 1)
-  pub big : 3 ≤ c
+record Coded (M T : ℕ) : Type 0 where
+  c : ℕ
+  base : suc c ≡ 2 ^ (M - T + 1)
+  half : 2 ^ (M - T) * 2 ≡ suc c
+  whole : 2 ^ T * suc c ≡ 2 ^ (M + 1)
+  top : 2 ^ M * 2 ≡ 2 ^ (M + 1)
+  big : 3 ≤ c
 
-pub coded : (M T : ℕ) → T < M → Coded M T
+coded : (M T : ℕ) → T < M → Coded M T
 coded M T h =
     let z : ℕ = M - T + 1 in
     record {
@@ -152,8 +144,8 @@ summed M T v h hv =
     }
 
 -- D.3's note: the repeated sum is v times the bucket size 2 ^ (M + 1) / (2 ^ (M - T + 1) - 1), rounded down
-pub uniform-is : (M T v : ℕ) → T < M → v < 2 ^ (M - T) → uniform M T v ≡ v * 2 ^ (M + 1) / (2 ^ (M - T + 1) - 1)
-uniform-is M T v h hv =
+pub uniform-division : (M T v : ℕ) → T < M → v < 2 ^ (M - T) → uniform M T v ≡ v * 2 ^ (M + 1) / (2 ^ (M - T + 1) - 1)
+uniform-division M T v h hv =
     let k = coded M T h in
     let w = summed M T v h hv in
     sym (ap (λ (x : ℕ). v * 2 ^ (M + 1) / x) (omega (arith, k .base)) ∙ ap (λ (x : ℕ). x / k .c) (sym (w .sum)) ∙ digits-div (uniform M T v) (w .below))
@@ -170,13 +162,14 @@ record Rounded (M T d c : ℕ) : Type 0 where
   below : left < 2 ^ (M + 1)
 
 rounded : (M T d : ℕ) (h : T < M) → Rounded M T d (coded M T h .c)
+unfolding uniformIndex
 rounded M T d h =
     let k = coded M T h in
     let n : ℕ = d * 2 ^ (M - T + 1) - d + 2 ^ M in
     let same : n ≡ d * k .c + 2 ^ M = omega (arith, mul-suc d (k .c), ap (λ (x : ℕ). d * x) (k .base)) in
     record {
       left = n % 2 ^ (M + 1);
-      sum = ap (λ (x : ℕ). x * 2 ^ (M + 1) + n % 2 ^ (M + 1)) (uniform-index-on M T d h) ∙ div-add-mod' n (2 ^ (M + 1)) ∙ same;
+      sum = rw (lt-ltb T M h) (div-add-mod' n (2 ^ (M + 1)) ∙ same);
       below = mod-lt n (pow-pos (M + 1));
     }
 
@@ -232,13 +225,13 @@ deadzone-near M T d (suc v) r h e hr =
 deadzone-small : (M T v : ℕ) → T < M → v < 2 ^ (M - T) → deadzone M T v < 2 ^ M
 deadzone-small M T zero h hv = omega (arith, deadzone-zero M T, pow-pos M)
 deadzone-small M T (suc v) h hv =
-    omega
-    ( arith
-    , deadzone-on M T (suc v) h (zero-lt-suc v)
-    , mul-le-mul-right (2 ^ T) hv
-    , suc-mul (suc v) (2 ^ T)
-    , sym (pow-add 2 (M - T) T) ∙ ap (λ (x : ℕ). 2 ^ x) (sub-add-cancel (le-of-lt h))
-    , pow-pos T
+    omega (
+      arith,
+      deadzone-on M T (suc v) h (zero-lt-suc v),
+      mul-le-mul-right (2 ^ T) hv,
+      suc-mul (suc v) (2 ^ T),
+      sym (pow-add 2 (M - T) T) ∙ ap (λ (x : ℕ). 2 ^ x) (sub-add-cancel (le-of-lt h)),
+      pow-pos T,
     )
 
 -- ---- either quantiser, every M and T

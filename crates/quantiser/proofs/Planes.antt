@@ -1,7 +1,7 @@
 -- D.6's count of bitplanes: the least k with v below 2 ^ k, and what the leading zeros of a word leave. Assumes nothing.
 use mathlib.Core.Path.{_≡_, refl, sym, ap, _∙_, subst}
-use Prim.Native.Nat.{ℕ, zero, suc, _+_, _-_, _*_, _/_, _^_, _≤_, _<_}
-use native.Mathlib.Nat.{le-refl, le-trans, lt-of-le-of-lt, not-suc-le-zero, add-suc, pow-suc}
+use Prim.Native.Nat.{ℕ, zero, suc, _+_, _/_, _^_, _≤_, _<_}
+use native.Mathlib.Nat.{le-refl, lt-of-le-of-lt, not-suc-le-zero, add-suc, pow-suc}
 use native.Mathlib.Numerals.{add-one}
 use native.Mathlib.Omega.{arith}
 use lib.Arith.{half-le, lt-one}

@@ -1,31 +1,12 @@
 -- What the code of the quantisers meets at an index that is not 0: in a word `a << k` is `(a * 2 ^ k) % 2 ^ 64`, which `omega` takes for `a * 2 ^ k`
 -- once it has a bound on that. Assumes nothing.
 use mathlib.Core.Path.{_≡_}
-use mathlib.Core.Bool.{Bool}
 use Prim.Native.Nat.{ℕ, _+_, _-_, _*_, _%_, _^_, _≤_, _<_}
 use native.Mathlib.Nat.{lt-of-lt-of-le, lt-of-not-le, sub-eq-zero-of-le}
 use native.Mathlib.Omega.{arith}
 use lib.Pow.{pow-mono, pow-lt, shl-lt}
-use lib.IntN.{ℤ, natAbs}
 use Rattle.whole.proofs.Machine.{one-shl}
-use Rattle.quantiser.specs.Inverse.{inverse, coefficientOf, scaled, Carried}
-use Rattle.quantiser.proofs.Near.{inverse-small}
-use Rattle.quantiser.proofs.Laws.{coefficient-small, scaled-small}
-
--- ---- sizes
-
-module _ {M T v : ℕ} (k : Carried M T v) where
-  pub index-word : v < 2 ^ 31
-  index-word = lt-of-lt-of-le (k .below) (pow-mono {j = 31} (omega (arith, k .planes)))
-
-  pub size-word : (q : Bool) → inverse q M T v < 2 ^ 31
-  size-word q = lt-of-lt-of-le (inverse-small q M T v (k .below)) (pow-mono {j = 31} (k .planes))
-
-pub scaled-word : (q : Bool) {M T : ℕ} (Fq : ℕ) (i : ℤ) → Carried M T (natAbs i) → Fq ≤ 15 → natAbs (scaled Fq (coefficientOf q M T i)) < 2 ^ 46
-scaled-word q {M} {T} Fq i k h =
-    lt-of-lt-of-le (scaled-small Fq M (coefficientOf q M T i) (coefficient-small q M T i (k .below))) (pow-mono {j = 46} (omega (arith, k .planes)))
-
--- ---- past the test of an index that is not 0
+use Rattle.quantiser.specs.Inverse.{Carried}
 
 pub record Word (M T v : ℕ) : Type 0 where
   pub above : T < M
@@ -39,7 +20,7 @@ word M T v k n =
     let h : T < M = lt-of-not-le no-planes in
     record {
       above = h;
-      few = k .planes;
+      few = k .count;
       shifted = lt-of-lt-of-le (shl-lt (M - T) T (k .below)) (pow-mono {j = 31} (omega arith));
       step = one-shl T (omega arith);
       base = pow-lt {i = 0} (omega arith);

@@ -41,7 +41,7 @@ coefficientOf q M T i = bySize (inverse q M T) i
 unfoldable pub scaled : ℕ → ℤ → ℤ
 scaled Fq c = c *ℤ pos (2 ^ Fq)
 
--- What a data subpacket can carry of an index: M - T of the planes, which are at most 31
+-- An index magnitude that a stream can hold: the bitplane count is at most 31, and a data subpacket carries M - T planes
 pub record Carried (M T v : ℕ) : Type 0 where
-  pub planes : M ≤ 31
+  pub count : M ≤ 31
   pub below : v < 2 ^ (M - T)

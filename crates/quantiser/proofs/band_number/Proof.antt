@@ -1,8 +1,8 @@
 -- `quantiser::band_number` meets its contract. Assumes nothing.
 use mathlib.Core.Path.{_≡_, ap, _∙_}
-use Prim.Native.Nat.{ℕ, _-_, _*_, _%_, _^_, _<_}
+use Prim.Native.Nat.{ℕ, _-_, _*_, _%_, _^_}
 use native.Mathlib.Omega.{arith}
-use lib.Pow.{pow-pos, pow-mono, shl-exact, ones-lt}
+use lib.Pow.{pow-pos, shl-exact, ones-lt}
 use Rattle.whole.proofs.Machine.{one-shl}
 use Rattle.quantiser.specs.Distance.{bandNumber}
 use Rattle.quantiser.proofs.band_number.Statement.{statement}

@@ -1,14 +1,15 @@
 -- `quantiser::coefficient` meets its contract. Assumes nothing.
 use mathlib.Core.Path.{_≡_, ap, ap₂, _∙_}
-use Prim.Native.Nat.{ℕ, _<_, _^_}
 use native.Mathlib.Omega.{arith}
-use lib.IntN.{ℤ, natAbs}
+use lib.IntN.{natAbs}
+use lib.Pow.{pow-mono}
 use mir.Syntax.{w64}
 use mir.Val.{toZ, ofZ}
 use Rattle.whole.specs.Numbers.{withSign}
 use Rattle.whole.proofs.Machine.{back64}
 use Rattle.quantiser.specs.Inverse.{inverse, coefficientOf}
-use Rattle.quantiser.proofs.Words.{index-word, size-word}
+use Rattle.quantiser.proofs.Near.{inverse-small}
+use Rattle.quantiser.proofs.Laws.{carried-index}
 use Rattle.quantiser.proofs.coefficient.Statement.{statement}
 use Rattle.quantiser.proofs.coefficient.Tie as tie
 
@@ -24,13 +25,16 @@ made : (c : tie.After-size-by) → let a = c .before .before .args in c .size-by
 made c = let a = c .before .before .args in c .size-by .ensures ∙ ap (inverse (a .uniform) (a .m) (a .t)) (sized (c .before))
 
 magnitude-requires : tie.Need-magnitude-requires
-magnitude-requires c κs = rw (read c) (omega (arith, index-word (c .pre)))
+magnitude-requires c κs = rw (read c) (omega (arith, carried-index (c .pre)))
 
 size-by-requires : tie.Need-size-by-requires
 size-by-requires c κs = rw (sized c) (c .before .pre)
 
 with-sign-requires : tie.Need-with-sign-requires
-with-sign-requires c κs = omega (arith, made c, size-word (c .before .before .pre) (c .before .before .args .uniform))
+with-sign-requires c κs =
+    let s = c .before .before in
+    let a = s .args in
+    omega (arith, made c, inverse-small (a .uniform) (a .m) (a .t) (natAbs (a .index)) (s .pre .below), pow-mono {j = 31} (s .pre .count))
 
 returns : tie.Need-returns
 unfolding coefficientOf

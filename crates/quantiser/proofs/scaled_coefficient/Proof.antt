@@ -1,18 +1,16 @@
 -- `quantiser::scaled_coefficient` meets its contract. Assumes nothing.
 use mathlib.Core.Path.{_≡_, ap, ap₂, _∙_}
-use mathlib.Core.Bool.{Bool}
-use Prim.Native.Nat.{ℕ, _+_, _*_, _%_, _<_, _≤_, _^_}
-use native.Mathlib.Nat.{lt-of-lt-of-le}
+use Prim.Native.Nat.{_*_, _%_, _<_, _^_}
 use native.Mathlib.Omega.{arith}
 use borrow.Author.Needs.{needs}
-use lib.IntN.{ℤ, pos, natAbs, _*ℤ_}
-use lib.Pow.{pow-lt, pow-mono}
+use lib.IntN.{ℤ, _*ℤ_}
+use lib.Pow.{pow-lt}
 use mir.Syntax.{w64}
 use mir.Val.{SFits, toZ, ofZ}
 use mir.Facts.{toZ-pos}
 use Rattle.whole.proofs.Machine.{back64, small-fits, one-shl}
 use Rattle.quantiser.specs.Inverse.{coefficientOf, scaled}
-use Rattle.quantiser.proofs.Words.{scaled-word}
+use Rattle.quantiser.proofs.Laws.{carried-scaled}
 use Rattle.quantiser.proofs.scaled_coefficient.Statement.{statement}
 use Rattle.quantiser.proofs.scaled_coefficient.Tie as tie
 
@@ -38,7 +36,7 @@ module _ (c : tie.After-coefficient) where
       (ap (toZ w64) p-is ∙ toZ-pos w64 (omega (arith, p-less)))
 
   fits : SFits w64 wanted
-  fits = small-fits wanted (omega (arith, scaled-word (s .args .uniform) (s .args .fq) (s .args .index) (s .pre .0) (s .pre .1)))
+  fits = small-fits wanted (omega (arith, carried-scaled (s .args .uniform) (s .args .index) (s .pre .0) {F = 15} (s .pre .1)))
 
 coefficient-requires : tie.Need-coefficient-requires
 coefficient-requires c κs = rw (back64 _ (c .fits .index .sfits)) (c .pre .0)

@@ -1,5 +1,4 @@
 -- `quantiser::size_by` meets its contract. Assumes nothing.
-use mathlib.Core.Path.{_≡_}
 use borrow.Author.Needs.{needs}
 use Rattle.quantiser.specs.Inverse.{inverse}
 use Rattle.quantiser.proofs.size_by.Statement.{statement}

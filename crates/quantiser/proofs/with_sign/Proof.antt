@@ -2,7 +2,7 @@
 use mathlib.Core.Path.{_≡_, sym, _∙_}
 use Prim.Native.Nat.{ℕ, _<_, _^_}
 use borrow.Author.Needs.{needs}
-use lib.IntN.{ℤ, pos, negℤ, natAbs}
+use lib.IntN.{pos, negℤ, natAbs}
 use mir.Syntax.{w64}
 use mir.Val.{toZ, ofZ}
 use mir.Facts.{toZ-pos}
