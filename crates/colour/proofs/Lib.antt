@@ -1,0 +1,2 @@
+-- Laws of Annex F, as far as it is built.
+pub mod Laws

@@ -1,0 +1,32 @@
+// Annex F of ISO/IEC 21122-1, as far as it is built: the inverse reversible colour transform of F.3, on components 0 to 2, in place.
+ghost use mathlib.Core.Path.{_≡_};
+ghost use Prim.Native.Nat.{_^_, _<_};
+ghost use Rattle.colour.specs.Rct.{inverseRct, numbersRct, Small};
+ghost use Rattle.colour.specs.Pass.{pixel, Stretches, Coloured};
+
+// A pixel's components 0, 1 and 2.
+pub struct Pixel {
+    pub c0: i64,
+    pub c1: i64,
+    pub c2: i64,
+}
+
+// The distance numbers of components 0, 1 and 2.
+pub struct Numbers {
+    pub c0: u64,
+    pub c1: u64,
+    pub c2: u64,
+}
+
+// Table F.2 at one pixel.
+fn inverse(i: Pixel) -> Pixel
+    requires { ⌜ Small (2 ^ 60) i ⌝ }
+    ensures { λ o. ⌜ o ≡ inverseRct i ⌝ }
+{
+    let green = i.c0 - ((i.c1 + i.c2) >> 2);
+    Pixel {
+        c0: green + i.c2,
+        c1: green,
+        c2: green + i.c1,
+    }
+}
