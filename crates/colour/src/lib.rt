@@ -1,8 +1,9 @@
 // Annex F of ISO/IEC 21122-1, as far as it is built: the inverse reversible colour transform of F.3, on components 0 to 2, in place.
 ghost use mathlib.Core.Path.{_≡_};
-ghost use Prim.Native.Nat.{_^_, _<_};
+ghost use Prim.Native.Nat.{_+_, _^_, _<_};
+ghost use lib.ListN.{length};
 ghost use Rattle.colour.specs.Rct.{inverseRct, numbersRct, Small};
-ghost use Rattle.colour.specs.Pass.{pixel, Stretches, Coloured};
+ghost use Rattle.colour.specs.Pass.{pixel, put, Stretches, Transformed};
 
 // A pixel's components 0, 1 and 2.
 pub struct Pixel {
@@ -29,4 +30,23 @@ fn inverse(i: Pixel) -> Pixel
         c1: green,
         c2: green + i.c1,
     }
+}
+
+// Table F.2 at the pixel whose components are the cells p, q and r.
+fn inverse_at(work: &mut [i64], p: usize, q: usize, r: usize)
+    requires { ⌜ (p < length (now work)) × (q < length (now work)) × (r < length (now work)) ⌝ }
+    requires { ⌜ Small (2 ^ 60) (pixel (now work) p q r) ⌝ }
+    ensures { λ _. ⌜ now (work .exit) ≡ put (now (work .entry)) p q r (inverseRct (pixel (now (work .entry)) p q r)) ⌝ }
+{
+    let o = inverse(Pixel {
+        c0: work[p],
+        c1: work[q],
+        c2: work[r],
+    });
+    let red = o.c0;
+    let green = o.c1;
+    let blue = o.c2;
+    work[p] = red;
+    work[q] = green;
+    work[r] = blue;
 }
