@@ -50,3 +50,15 @@ fn inverse_at(work: &mut [i64], p: usize, q: usize, r: usize)
     work[q] = green;
     work[r] = blue;
 }
+
+// Table F.2 at n pixels: component 0 stands in the n cells from first on, component 1 from second on, component 2 from third on.
+pub fn inverse_rct(work: &mut [i64], first: usize, second: usize, third: usize, n: usize)
+    requires { ⌜ Stretches (now work) first second third n ⌝ }
+    ensures { λ _. ⌜ Transformed first second third n (now (work .entry)) (now (work .exit)) ⌝ }
+{
+    let mut x: usize = 0;
+    while x < n {
+        inverse_at(work, first + x, second + x, third + x);
+        x += 1;
+    }
+}
