@@ -2,12 +2,12 @@
 use mathlib.Core.Path.{_≡_, refl, sym, ap, _∙_}
 use mathlib.Core.Logic.{_≢_}
 use mathlib.Core.List.{List}
-use Prim.Native.Nat.{ℕ, suc, _+_, _≤_, _<_}
-use native.Mathlib.Decide.{ℕ-discrete}
+use Prim.Native.Nat.{ℕ, _+_, _-_, _≤_, _<_}
+use native.Mathlib.Decide.{ℕ-discrete, decLe, decLt}
 use native.Mathlib.Omega.{arith}
 use lib.IntN.{ℤ, pos}
 use lib.ListN.{length, set, length-set}
-use lib.Seq.{getD-set-same, getD-set-other}
+use lib.Seq.{getD-set-same, getD-set-other, ext-getD}
 use Rattle.whole.specs.Cells.{cell}
 use Rattle.colour.specs.Rct.{inverseRct}
 use Rattle.colour.specs.Pass.{pixel, put, Stretches, Transformed}
@@ -84,3 +84,32 @@ module _ {first second third n x : ℕ} {l l′ : List ℤ} (s : Stretches l fir
             other (third + y) (omega (arith, s .apart x y b k)),
           )
           (t .on y (omega arith))
+
+-- ---- the contract determines every cell
+
+-- a cell is one of a stretch's, or none of them
+data Place (base n j : ℕ) : Type 0 where
+  within : (x : ℕ) → x < n → j ≡ base + x → Place base n j
+  outside : ((x : ℕ) → x < n → j ≢ base + x) → Place base n j
+
+place : (base n j : ℕ) → Place base n j
+place base n j = pick (decLe base j) (decLt j (base + n))
+  where
+    pick : Dec (base ≤ j) → Dec (j < base + n) → Place base n j
+    pick (yes p) (yes q) = within (j - base) (omega arith) (omega arith)
+    pick (yes p) (no q) = outside (λ x h e. q (omega arith))
+    pick (no p) q = outside (λ x h e. p (omega arith))
+
+pub pass-unique : {first second third n : ℕ} {l l′ l″ : List ℤ} → Transformed first second third n l l′ → Transformed first second third n l l″ → l′ ≡ l″
+pass-unique {first} {second} {third} {n} {l} {l′} {l″} t u =
+    ext-getD (pos 0) l′ l″ (t .same ∙ sym (u .same)) (λ j h. at j (place first n j) (place second n j) (place third n j))
+  where
+    both : (x : ℕ) → x < n → pixel l′ (first + x) (second + x) (third + x) ≡ pixel l″ (first + x) (second + x) (third + x)
+    both x h = t .on x h ∙ sym (u .on x h)
+
+    at : (j : ℕ) → Place first n j → Place second n j → Place third n j → cell l′ j ≡ cell l″ j
+    at j (within x h e) q r = rw e (ap (λ (p : Pixel). p .c0) (both x h))
+    at j (outside f) (within x h e) r = rw e (ap (λ (p : Pixel). p .c1) (both x h))
+    at j (outside f) (outside g) (within x h e) = rw e (ap (λ (p : Pixel). p .c2) (both x h))
+    at j (outside f) (outside g) (outside k) =
+        t .off j (λ x h. (f x h, g x h, k x h)) ∙ sym (u .off j (λ x h. (f x h, g x h, k x h)))

@@ -17,11 +17,6 @@ pixel l p q r = record { c0 = cell l p; c1 = cell l q; c2 = cell l r }
 abbrev pub put : List ℤ → ℕ → ℕ → ℕ → Pixel → List ℤ
 put l p q r o = set (set (set l p (o .c0)) q (o .c1)) r (o .c2)
 
--- three cells of a list, no two the same
-pub record Cells (l : List ℤ) (p q r : ℕ) : Type 0 where
-  pub inside : (p < length l) × (q < length l) × (r < length l)
-  pub apart : (p ≢ q) × (p ≢ r) × (q ≢ r)
-
 -- three stretches of n cells, no two of which share a cell, with pixels whose components are at most 2^60 in size
 pub record Stretches (l : List ℤ) (first second third n : ℕ) : Type 0 where
   pub inside : (first + n ≤ length l) × (second + n ≤ length l) × (third + n ≤ length l)

@@ -1,6 +1,6 @@
 // Annex F of ISO/IEC 21122-1, as far as it is built: the inverse reversible colour transform of F.3, on components 0 to 2, in place.
 ghost use mathlib.Core.Path.{_≡_};
-ghost use Prim.Native.Nat.{_+_, _^_, _<_};
+ghost use Prim.Native.Nat.{_^_, _≤_, _<_};
 ghost use lib.ListN.{length};
 ghost use Rattle.colour.specs.Rct.{inverseRct, numbersRct, Small};
 ghost use Rattle.colour.specs.Pass.{pixel, put, Stretches, Transformed};
@@ -60,5 +60,18 @@ pub fn inverse_rct(work: &mut [i64], first: usize, second: usize, third: usize, 
     while x < n {
         inverse_at(work, first + x, second + x, third + x);
         x += 1;
+    }
+}
+
+// Document 01's distance rule 3: the numbers of red, green and blue.
+pub fn numbers_rct(e: Numbers) -> Numbers
+    requires { ⌜ (e .c0 ≤ 2 ^ 60) × (e .c1 ≤ 2 ^ 60) × (e .c2 ≤ 2 ^ 60) ⌝ }
+    ensures { λ r. ⌜ r ≡ numbersRct e ⌝ }
+{
+    let green = e.c0 + (e.c1 + e.c2 + 3) / 4;
+    Numbers {
+        c0: green + e.c2,
+        c1: green,
+        c2: green + e.c1,
     }
 }
