@@ -1,18 +1,53 @@
-fn sample(v: i64, lift: i64, top: i64, shift: u64) -> u16 {
-    let s = v + lift;
-    let c = if s < 0 { 0 } else if top < s { top } else { s };
-    ((c as u64) >> shift) as u16
+// Annex G of ISO/IEC 21122-1, as far as it is built: linear output scaling (G.3), from the work buffer's values to samples.
+ghost use mathlib.Core.Path.{_≡_};
+ghost use mathlib.Core.List.{map};
+ghost use Prim.Native.Nat.{_^_, _≤_, _<_, min};
+ghost use lib.IntN.{natAbs};
+ghost use Rattle.output.specs.Linear.{clamp, sample, distance, Precisions, Lent, scaleOf, scaled, Usable};
+
+// What Table G.2 works out once for a component.
+pub struct Scale {
+    pub lift: u64,
+    pub shift: u64,
+    pub top: u64,
 }
 
-pub fn linear(work: &[i64], out: &mut [u16], bw: u64, b: u64) {
+// The constants for the precisions bw and b.
+fn scale_of(bw: u64, b: u64) -> Scale
+    requires { ⌜ Precisions bw b ⌝ }
+    ensures { λ r. ⌜ r ≡ scaleOf bw b ⌝ }
+{
     let shift = bw - b;
-    let lift: u64 = ((1 << bw) >> 1) + ((1 << shift) >> 1);
-    let up = lift as i64;
-    let top: u64 = (1 << bw) - 1;
-    let t = top as i64;
-    let mut x: usize = 0;
-    while x < out.len() {
-        out[x] = sample(work[x], up, t, shift);
-        x += 1;
+    Scale {
+        lift: ((1 << bw) >> 1) + ((1 << shift) >> 1),
+        shift: shift,
+        top: (1 << b) - 1,
     }
+}
+
+// The smaller of q and top.
+fn least(q: u64, top: u64) -> u16
+    requires { ⌜ top < 2 ^ 16 ⌝ }
+    ensures { λ r. ⌜ r ≡ min q top ⌝ }
+{
+    if q < top { q as u16 } else { top as u16 }
+}
+
+// Table G.2's clamp of q to 0 .. top.
+fn clamp_of(q: i64, top: u64) -> u16
+    requires { ⌜ top < 2 ^ 16 ⌝ }
+    ensures { λ r. ⌜ r ≡ clamp top q ⌝ }
+{
+    if q < 0 {
+        return 0;
+    }
+    least(q as u64, top)
+}
+
+// The sample of one value.
+fn sample_of(v: i64, s: Scale) -> u16
+    requires { ⌜ (natAbs v ≤ 2 ^ 60) × Usable s ⌝ }
+    ensures { λ r. ⌜ r ≡ scaled s v ⌝ }
+{
+    clamp_of((v + (s.lift as i64)) >> s.shift, s.top)
 }
