@@ -51,3 +51,26 @@ fn sample_of(v: i64, s: Scale) -> u16
 {
     clamp_of((v + (s.lift as i64)) >> s.shift, s.top)
 }
+
+// Table G.2 for one component: the sample of each value, in the same order.
+pub fn linear_output(work: &[i64], out: &mut [u16], bw: u64, b: u64)
+    requires { ⌜ Lent bw b (now work) (now out) ⌝ }
+    ensures { λ _. ⌜ now (out .exit) ≡ map (sample bw b) (now (work .entry)) ⌝ }
+{
+    let s = scale_of(bw, b);
+    let mut x: usize = 0;
+    while x < work.len() {
+        out[x] = sample_of(work[x], s);
+        x += 1;
+    }
+}
+
+// Document 01's distance rules 4 and 5: the distance of a component whose number before the output step is e.
+pub fn distance_of(e: u64, bw: u64, b: u64) -> u16
+    requires { ⌜ (e ≤ 2 ^ 60) × Precisions bw b ⌝ }
+    ensures { λ r. ⌜ r ≡ distance bw b e ⌝ }
+{
+    let s = scale_of(bw, b);
+    let step: u64 = 1 << s.shift;
+    least((e + (step - 1)) >> s.shift, s.top)
+}
