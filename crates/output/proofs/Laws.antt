@@ -11,7 +11,8 @@ use Rattle.whole.specs.Numbers.{ceilDiv, Within, Near}
 use Rattle.whole.proofs.Linear.{ofDist, ltZ-true}
 use Rattle.whole.proofs.Machine.{pos-is}
 use Rattle.whole.proofs.Within.{within-refl, within-le, within-add, within-shr, within-zero}
-use Rattle.output.specs.Linear.{levelled, rescaled, clamp, sample, scaledNumber, distance, Precisions, scaleOf, scaled, Usable}
+use Rattle.output.specs.Linear.{levelled, rescaled, clamp, sample, scaledNumber, distance, Precisions}
+use Rattle.output.specs.Constants.{scaleOf, byScale, Usable}
 
 -- ---- document 01, distance rules 4 and 5
 
@@ -59,7 +60,7 @@ clamp-over m v h = rw (pos-is v h)
 
 -- ---- the constants
 
-pub scaled-is : (Bw B : ℕ) (v : ℤ) → scaled (scaleOf Bw B) v ≡ sample Bw B v
+pub scaled-is : (Bw B : ℕ) (v : ℤ) → byScale (scaleOf Bw B) v ≡ sample Bw B v
 unfolding sample
 scaled-is Bw B v = rw (+ℤ-assoc v (pos (2 ^ Bw / 2)) (pos (2 ^ (Bw - B) / 2)))
 

@@ -3,13 +3,22 @@ ghost use mathlib.Core.Path.{_≡_};
 ghost use mathlib.Core.List.{map};
 ghost use Prim.Native.Nat.{_^_, _≤_, _<_, min};
 ghost use lib.IntN.{natAbs};
-ghost use Rattle.output.specs.Linear.{clamp, sample, distance, Precisions, Lent, scaleOf, scaled, Usable};
+ghost use Rattle.output.specs.Linear.{clamp, sample, distance, Precisions, Lent};
+ghost use Rattle.output.specs.Constants.{scaleOf, byScale, Usable};
 
-// What Table G.2 works out once for a component.
+// What Table G.2 works out once for a component: both terms that it adds, in one; the shift; the largest sample.
 pub struct Scale {
     pub lift: u64,
     pub shift: u64,
     pub top: u64,
+}
+
+// 2^k.
+fn power(k: u64) -> u64
+    requires { ⌜ k < 64 ⌝ }
+    ensures { λ r. ⌜ r ≡ 2 ^ k ⌝ }
+{
+    1 << k
 }
 
 // The constants for the precisions bw and b.
@@ -19,9 +28,9 @@ fn scale_of(bw: u64, b: u64) -> Scale
 {
     let shift = bw - b;
     Scale {
-        lift: ((1 << bw) >> 1) + ((1 << shift) >> 1),
+        lift: (power(bw) >> 1) + (power(shift) >> 1),
         shift: shift,
-        top: (1 << b) - 1,
+        top: power(b) - 1,
     }
 }
 
@@ -47,7 +56,7 @@ fn clamp_of(q: i64, top: u64) -> u16
 // The sample of one value.
 fn sample_of(v: i64, s: Scale) -> u16
     requires { ⌜ (natAbs v ≤ 2 ^ 60) × Usable s ⌝ }
-    ensures { λ r. ⌜ r ≡ scaled s v ⌝ }
+    ensures { λ r. ⌜ r ≡ byScale s v ⌝ }
 {
     clamp_of((v + (s.lift as i64)) >> s.shift, s.top)
 }
@@ -71,6 +80,5 @@ pub fn distance_of(e: u64, bw: u64, b: u64) -> u16
     ensures { λ r. ⌜ r ≡ distance bw b e ⌝ }
 {
     let s = scale_of(bw, b);
-    let step: u64 = 1 << s.shift;
-    least((e + (step - 1)) >> s.shift, s.top)
+    least((e + (power(s.shift) - 1)) >> s.shift, s.top)
 }

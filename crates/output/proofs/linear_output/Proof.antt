@@ -12,7 +12,8 @@ use borrow.Author.Needs.{needs}
 use Rattle.whole.specs.Cells.{cell}
 use Rattle.whole.proofs.Machine.{read-small}
 use Rattle.whole.proofs.Passes.{mapped, mapped-none, mapped-length, mapped-step, mapped-all, mapAt-from}
-use Rattle.output.specs.Linear.{sample, scaled}
+use Rattle.output.specs.Linear.{sample}
+use Rattle.output.specs.Constants.{byScale}
 use Rattle.output.proofs.Laws.{scaled-is, usable}
 use Rattle.output.proofs.linear_output.Statement.{statement}
 use Rattle.output.proofs.linear_output.Tie as tie
@@ -79,7 +80,7 @@ loop-again c =
     let x : ℕ = t .before .loop .x in
     let g : ℕ → ℕ → ℕ = samples (a .work .now) (a .bw) (a .b) in
     let gave : c .sample-of .result ≡ g x 0 =
-    c .sample-of .ensures ∙ ap₂ scaled (t .before .before .scale-of .ensures) (v-read t) ∙ scaled-is (a .bw) (a .b) (v t) in (
+    c .sample-of .ensures ∙ ap₂ byScale (t .before .before .scale-of .ensures) (v-read t) ∙ scaled-is (a .bw) (a .b) (v t) in (
       omega arith,
       ap₂ (λ (l : List ℕ) (z : ℕ). set l x z) (t .before .loop .inv .1) gave ∙ mapped-step g x (a .out .now) 0 (omega arith)
           ∙ ap (λ (n : ℕ). mapped g n (a .out .now)) (sym (add-one x)),
