@@ -1,12 +1,12 @@
 -- The laws of F.3 at a pixel: distance, size, and what the machine's words hold. Assumes nothing.
 use mathlib.Core.Path.{_≡_, refl}
-use Prim.Native.Nat.{ℕ, _+_, _^_, _≤_, _<_}
+use Prim.Native.Nat.{ℕ, _+_, _^_, _≤_}
 use native.Mathlib.Omega.{arith}
 use lib.IntN.{ℤ, pos, natAbs, _+ℤ_}
 use lib.Signed.{shrZ}
 use mir.Syntax.{w64}
 use mir.Val.{SFits}
-use Rattle.whole.specs.Numbers.{ceilDiv, Within}
+use Rattle.whole.specs.Numbers.{ceilDiv}
 use Rattle.whole.proofs.Within.{within-add, within-sub, within-shr, within-of-size, size-of-within}
 use Rattle.whole.proofs.Machine.{small-fits, shr-fits, size-add}
 use Rattle.colour.specs.Rct.{inverseRct, numbersRct, PixelsWithin, Small}

@@ -1,3 +1,3 @@
 -- Laws of Annex F, as far as it is built.
 pub mod Laws
-pub mod Stores
+pub mod Pass

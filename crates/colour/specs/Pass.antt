@@ -18,7 +18,7 @@ abbrev pub put : List ℤ → ℕ → ℕ → ℕ → Pixel → List ℤ
 put l p q r o = set (set (set l p (o .c0)) q (o .c1)) r (o .c2)
 
 -- three stretches of n cells, no two of which share a cell, with pixels whose components are at most 2^60 in size
-pub record Stretches (l : List ℤ) (first second third n : ℕ) : Type 0 where
+pub record Stretches (first second third n : ℕ) (l : List ℤ) : Type 0 where
   pub inside : (first + n ≤ length l) × (second + n ≤ length l) × (third + n ≤ length l)
   pub apart : (x y : ℕ) → x < n → y < n → (first + x ≢ second + y) × (first + x ≢ third + y) × (second + x ≢ third + y)
   pub small : (x : ℕ) → x < n → Small (2 ^ 60) (pixel l (first + x) (second + x) (third + x))

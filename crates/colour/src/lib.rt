@@ -53,7 +53,7 @@ fn inverse_at(work: &mut [i64], p: usize, q: usize, r: usize)
 
 // Table F.2 at n pixels: component 0 stands in the n cells from first on, component 1 from second on, component 2 from third on.
 pub fn inverse_rct(work: &mut [i64], first: usize, second: usize, third: usize, n: usize)
-    requires { ⌜ Stretches (now work) first second third n ⌝ }
+    requires { ⌜ Stretches first second third n (now work) ⌝ }
     ensures { λ _. ⌜ Transformed first second third n (now (work .entry)) (now (work .exit)) ⌝ }
 {
     let mut x: usize = 0;

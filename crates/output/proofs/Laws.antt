@@ -1,17 +1,17 @@
 -- The laws of G.3: what its constants make, distance and range. Assumes nothing.
-use mathlib.Core.Path.{_≡_, refl, sym, ap, _∙_}
+use mathlib.Core.Path.{_≡_, refl}
 use mathlib.Core.Bool.{true, false}
-use Prim.Native.Nat.{ℕ, _+_, _-_, _*_, _/_, _%_, _^_, _≤_, _<_, min}
+use Prim.Native.Nat.{ℕ, _+_, _-_, _/_, _^_, _≤_, _<_, min}
 use native.Mathlib.Nat.{div-eq-of-lt}
 use native.Mathlib.Omega.{arith}
 use lib.IntN.{ℤ, pos, negsuc, natAbs, _+ℤ_, +ℤ-assoc}
-use lib.Pow.{pow-pos, pow-mono, pow-lt}
-use lib.Signed.{shrZ, ltZ}
-use Rattle.whole.specs.Numbers.{ceilDiv, Within, Near}
+use lib.Pow.{pow-pos, pow-mono}
+use lib.Signed.{ltZ}
+use Rattle.whole.specs.Numbers.{Within, Near}
 use Rattle.whole.proofs.Linear.{ofDist, ltZ-true}
 use Rattle.whole.proofs.Machine.{pos-is}
-use Rattle.whole.proofs.Within.{within-refl, within-le, within-add, within-shr, within-zero}
-use Rattle.output.specs.Linear.{levelled, rescaled, clamp, sample, scaledNumber, distance, Precisions}
+use Rattle.whole.proofs.Within.{within-refl, within-le, within-add, within-shr}
+use Rattle.output.specs.Linear.{levelled, rescaled, clamp, sample, distance, Precisions}
 use Rattle.output.specs.Constants.{scaleOf, byScale, Usable}
 
 -- ---- document 01, distance rules 4 and 5
@@ -60,9 +60,9 @@ clamp-over m v h = rw (pos-is v h)
 
 -- ---- the constants
 
-pub scaled-is : (Bw B : ℕ) (v : ℤ) → byScale (scaleOf Bw B) v ≡ sample Bw B v
+pub by-scale : (Bw B : ℕ) (v : ℤ) → byScale (scaleOf Bw B) v ≡ sample Bw B v
 unfolding sample
-scaled-is Bw B v = rw (+ℤ-assoc v (pos (2 ^ Bw / 2)) (pos (2 ^ (Bw - B) / 2)))
+by-scale Bw B v = rw (+ℤ-assoc v (pos (2 ^ Bw / 2)) (pos (2 ^ (Bw - B) / 2)))
 
 pub usable : {Bw B : ℕ} → Precisions Bw B → Usable (scaleOf Bw B)
 usable {Bw} {B} h = record {

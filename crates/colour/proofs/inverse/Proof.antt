@@ -1,5 +1,4 @@
 -- `colour::inverse` meets its contract: every number on the way fits, so each is what the machine reads back. Assumes nothing.
-use mathlib.Core.Path.{refl}
 use mir.Facts.{toZ-ofZ}
 use Rattle.colour.specs.Rct.{inverseRct}
 use Rattle.colour.proofs.Laws.{Fitting, fitting}

@@ -4,7 +4,7 @@ use Prim.Native.Nat.{_-_, _≤_}
 use native.Mathlib.Omega.{arith}
 use borrow.Author.Needs.{needs}
 use Rattle.colour.specs.Pass.{Transformed}
-use Rattle.colour.proofs.Stores.{pass-starts, pass-here, pass-goes-on}
+use Rattle.colour.proofs.Pass.{pass-starts, pass-here, pass-goes-on}
 use Rattle.colour.proofs.inverse_rct.Statement.{statement}
 use Rattle.colour.proofs.inverse_rct.Tie as tie
 
@@ -17,27 +17,12 @@ abbrev μ-loop : tie.MeasureT-loop
 loop-holds : tie.Need-loop-holds Inv-loop μ-loop
 loop-holds c = (omega arith, pass-starts)
 
-add-inverse-at : tie.Need-add-inverse-at Inv-loop μ-loop
-add-inverse-at c = search needs
-
-add-inverse-at-2 : tie.Need-add-inverse-at-2 Inv-loop μ-loop
-add-inverse-at-2 c = search needs
-
-add-inverse-at-3 : tie.Need-add-inverse-at-3 Inv-loop μ-loop
-add-inverse-at-3 c = search needs
-
 inverse-at-requires : tie.Need-inverse-at-requires Inv-loop μ-loop
 inverse-at-requires c κs =
     let s = c .before .before .before .pre in
     let t = c .before .before .loop .inv .1 in
     let b = c .before .loop-test .taken in
     (omega (arith, s .inside, t .same), rw (pass-here s t b) (s .small _ b))
-
-add-x : tie.Need-add-x Inv-loop μ-loop
-add-x c = search needs
-
-loop-less : tie.Need-loop-less Inv-loop μ-loop
-loop-less c = search needs
 
 loop-again : tie.Need-loop-again Inv-loop μ-loop
 loop-again c =
@@ -59,12 +44,12 @@ inverse-rct-spec =
     Inv-loop
     μ-loop
     loop-holds
-    add-inverse-at
-    add-inverse-at-2
-    add-inverse-at-3
+    (λ c. search needs)
+    (λ c. search needs)
+    (λ c. search needs)
     inverse-at-requires
-    add-x
-    loop-less
+    (λ c. search needs)
+    (λ c. search needs)
     loop-again
     same-length
     returns)

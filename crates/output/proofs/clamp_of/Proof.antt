@@ -25,13 +25,10 @@ cast-least c =
     let q = c .before .args .q in
     cast-pos _ (natAbs q) (back (c .before) ∙ pos-is q (rw (back (c .before)) at (c .if1 .left))) (omega (arith, natAbs-le q (c .before .fits .q .sfits)))
 
-least-requires : tie.Need-least-requires
-least-requires c κs = search needs
-
 returns-2 : tie.Need-returns-2
 returns-2 c =
     let s = c .before .before in
     (rw (back s) at (c .least .ensures)) ∙ sym (clamp-over (s .args .top) (s .args .q) (rw (back s) at (c .before .if1 .left)))
 
 pub clamp-of-spec : {M : Type 1} → statement M
-clamp-of-spec = tie.close (tie.spec returns cast-least least-requires returns-2)
+clamp-of-spec = tie.close (tie.spec returns cast-least (λ c κs. search needs) returns-2)

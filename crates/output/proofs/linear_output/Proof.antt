@@ -1,7 +1,7 @@
 -- `output::linear_output` meets its contract. The invariant: the first x samples are written, the others are as they were. Assumes nothing.
 use mathlib.Core.Path.{_≡_, sym, ap, ap₂, _∙_}
 use mathlib.Core.List.{List}
-use Prim.Native.Nat.{ℕ, _-_, _^_, _≤_, _<_}
+use Prim.Native.Nat.{ℕ, _-_, _^_, _≤_}
 use native.Mathlib.Numerals.{add-one}
 use native.Mathlib.Omega.{arith}
 use lib.IntN.{ℤ, pos, natAbs}
@@ -14,7 +14,7 @@ use Rattle.whole.proofs.Machine.{read-small}
 use Rattle.whole.proofs.Passes.{mapped, mapped-none, mapped-length, mapped-step, mapped-all, mapAt-from}
 use Rattle.output.specs.Linear.{sample}
 use Rattle.output.specs.Constants.{byScale}
-use Rattle.output.proofs.Laws.{scaled-is, usable}
+use Rattle.output.proofs.Laws.{by-scale, usable}
 use Rattle.output.proofs.linear_output.Statement.{statement}
 use Rattle.output.proofs.linear_output.Tie as tie
 
@@ -44,34 +44,16 @@ module _ (c : tie.In-loop Inv-loop μ-loop) where
   v-read : toZ w64 (ofZ w64 v) ≡ v
   v-read = read-small v (omega (arith, v-small))
 
-scale-of-requires : tie.Need-scale-of-requires Inv-loop μ-loop
-scale-of-requires c κs = search needs
-
 loop-holds : tie.Need-loop-holds Inv-loop μ-loop
 loop-holds c = (omega arith, sym (mapped-none _ _))
-
-mul-sample-of : tie.Need-mul-sample-of Inv-loop μ-loop
-mul-sample-of c = search needs
-
-shared-slice-copy-out-sample-of : tie.Need-shared-slice-copy-out-sample-of Inv-loop μ-loop
-shared-slice-copy-out-sample-of c = search needs
 
 sample-of-requires : tie.Need-sample-of-requires Inv-loop μ-loop
 sample-of-requires c κs =
     let t = c .before in
     (rw (v-read t) (v-small t), rw (t .before .before .scale-of .ensures) (usable (t .before .before .before .before .pre .precisions)))
 
-mul-out : tie.Need-mul-out Inv-loop μ-loop
-mul-out c = search needs
-
 slice-write-out : tie.Need-slice-write-out Inv-loop μ-loop
 slice-write-out c = omega (arith, long (c .before .before .before))
-
-add-x : tie.Need-add-x Inv-loop μ-loop
-add-x c = search needs
-
-loop-less : tie.Need-loop-less Inv-loop μ-loop
-loop-less c = search needs
 
 loop-again : tie.Need-loop-again Inv-loop μ-loop
 loop-again c =
@@ -80,7 +62,7 @@ loop-again c =
     let x : ℕ = t .before .loop .x in
     let g : ℕ → ℕ → ℕ = samples (a .work .now) (a .bw) (a .b) in
     let gave : c .sample-of .result ≡ g x 0 =
-    c .sample-of .ensures ∙ ap₂ byScale (t .before .before .scale-of .ensures) (v-read t) ∙ scaled-is (a .bw) (a .b) (v t) in (
+    c .sample-of .ensures ∙ ap₂ byScale (t .before .before .scale-of .ensures) (v-read t) ∙ by-scale (a .bw) (a .b) (v t) in (
       omega arith,
       ap₂ (λ (l : List ℕ) (z : ℕ). set l x z) (t .before .loop .inv .1) gave ∙ mapped-step g x (a .out .now) 0 (omega arith)
           ∙ ap (λ (n : ℕ). mapped g n (a .out .now)) (sym (add-one x)),
@@ -101,15 +83,15 @@ linear-output-spec =
     (tie.spec
     Inv-loop
     μ-loop
-    scale-of-requires
+    (λ c κs. search needs)
     loop-holds
-    mul-sample-of
-    shared-slice-copy-out-sample-of
+    (λ c. search needs)
+    (λ c. search needs)
     sample-of-requires
-    mul-out
+    (λ c. search needs)
     slice-write-out
-    add-x
-    loop-less
+    (λ c. search needs)
+    (λ c. search needs)
     loop-again
     same-length
     returns)

@@ -18,22 +18,10 @@ module _ (c : tie.Start) where
   sum-fits : SFits w64 (c .args .v +ℤ pos (c .args .s .lift))
   sum-fits = small-fits _ (omega (arith, size-add (c .args .v) (pos (c .args .s .lift))))
 
-cast-clamp-of : tie.Need-cast-clamp-of
-cast-clamp-of c = search needs
-
 add-clamp-of : tie.Need-add-clamp-of
 add-clamp-of c =
     let s = c .before in
     rw (toZ-ofZ (s .fits .v), lift-is s) (sum-fits s)
-
-cast-clamp-of-2 : tie.Need-cast-clamp-of-2
-cast-clamp-of-2 c = search needs
-
-shr-clamp-of : tie.Need-shr-clamp-of
-shr-clamp-of c = search needs
-
-clamp-of-requires : tie.Need-clamp-of-requires
-clamp-of-requires c κs = search needs
 
 returns : tie.Need-returns
 returns c =
@@ -43,4 +31,4 @@ returns c =
 pub sample-of-spec : {M : Type 1} → statement M
 sample-of-spec =
     tie.close
-    (tie.spec cast-clamp-of add-clamp-of cast-clamp-of-2 shr-clamp-of clamp-of-requires returns)
+    (tie.spec (λ c. search needs) add-clamp-of (λ c. search needs) (λ c. search needs) (λ c κs. search needs) returns)

@@ -15,9 +15,6 @@ use Rattle.colour.specs.declared.Pixel.{Pixel}
 
 -- ---- a pixel is put at p, q and r
 module _ (l : List ℤ) (p q r : ℕ) (o : Pixel) where
-  put-length : length (put l p q r o) ≡ length l
-  put-length = simp length-set
-
   put-off : (j : ℕ) → (j ≢ p) × (j ≢ q) × (j ≢ r) → cell (put l p q r o) j ≡ cell l j
   put-off j h =
       getD-set-other (set (set l p (o .c0)) q (o .c1)) r j (o .c2) (pos 0) (h .2)
@@ -46,7 +43,7 @@ module _ (l : List ℤ) (p q r : ℕ) (o : Pixel) where
 pub pass-starts : {first second third : ℕ} {l : List ℤ} → Transformed first second third 0 l l
 pass-starts = record { same = refl; on = λ x h. absurd (omega arith); off = λ j h. refl }
 
-module _ {first second third n x : ℕ} {l l′ : List ℤ} (s : Stretches l first second third n) (t : Transformed first second third x l l′) (b : x < n) where
+module _ {first second third n x : ℕ} {l l′ : List ℤ} (s : Stretches first second third n l) (t : Transformed first second third x l l′) (b : x < n) where
   -- the turn's pixel is as it was
   pub pass-here : pixel l′ (first + x) (second + x) (third + x) ≡ pixel l (first + x) (second + x) (third + x)
   pass-here =
