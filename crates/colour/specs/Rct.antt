@@ -12,7 +12,8 @@ inverseRct i =
     let o₁ : ℤ = i .c0 -ℤ shrZ (i .c1 +ℤ i .c2) (2 ^ 2) in
     record { c0 = o₁ +ℤ i .c2; c1 = o₁; c2 = o₁ +ℤ i .c1 }
 
--- document 01, distance rule 3: the numbers of red, green and blue from the numbers of the three components
+-- document 01, distance rule 3: the numbers of red, green and blue from those of the three components. Red gets the number of i₂ and blue that of
+-- i₁, which Table F.2 adds to them
 unfoldable pub numbersRct : Numbers → Numbers
 numbersRct e =
     let g : ℕ = e .c0 + ceilDiv (e .c1 + e .c2) 4 in

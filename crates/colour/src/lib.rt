@@ -43,6 +43,7 @@ fn inverse_at(work: &mut [i64], p: usize, q: usize, r: usize)
         c1: work[q],
         c2: work[r],
     });
+    // A signed number is stored from a local of its own.
     let red = o.c0;
     let green = o.c1;
     let blue = o.c2;
