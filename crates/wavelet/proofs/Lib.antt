@@ -1,0 +1,2 @@
+-- Laws of the filter and the transform.
+pub mod Borders

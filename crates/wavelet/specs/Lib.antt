@@ -1,0 +1,6 @@
+-- Annex E: the inverse 5-3 wavelet transform of one component, and the distance rule along it.
+pub mod Filter
+pub mod Transform
+pub mod Places
+pub mod Lines
+pub mod Distance

@@ -1,0 +1,53 @@
+-- Where a component's coefficients and samples stand in its lent cells: each coefficient where the samples that it becomes will be, so that the
+-- transform moves nothing.
+use mathlib.Core.Path.{_≡_}
+use mathlib.Core.List.{List}
+use Prim.Native.Nat.{ℕ, _+_, _*_, _-_, _^_, _≤_, _<_}
+use lib.IntN.{ℤ, natAbs}
+use lib.ListN.{length}
+use Rattle.whole.specs.Cells.{cell}
+use Rattle.wavelet.specs.Filter.{samples}
+use Rattle.wavelet.specs.Transform.{Kind, LL, HL, LH, HH, Band, low-size, inverse}
+
+-- the sample in column x and row y of a component of w columns
+abbrev pub sample-at : ℕ → List ℤ → Band ℤ
+sample-at w l x y = cell l (y * w + x)
+
+-- B.3: 1 where a filter type is high-pass, across and down
+abbrev pub τx : Kind → ℕ
+τx LL = 0
+τx HL = 1
+τx LH = 0
+τx HH = 1
+
+abbrev pub τy : Kind → ℕ
+τy LL = 0
+τy HL = 0
+τy LH = 1
+τy HH = 1
+
+-- the column, or row, of a coefficient: the i-th at depth d, low-pass (0) or high-pass (1)
+abbrev pub place : ℕ → ℕ → ℕ → ℕ
+place τ d i = i * 2 ^ d + τ * 2 ^ (d - 1)
+
+-- the band arrays that stand in the cells
+abbrev pub bands : Band ℤ → Kind → ℕ → ℕ → Band ℤ
+bands P k dx dy x y = P (place (τx k) dx x) (place (τy k) dy y)
+
+-- a component that the transform takes: its cells, the levels of the built range, and two samples or more to every filter
+pub record Component (w h nx ny len : ℕ) : Type 0 where
+  pub all : h * w ≡ len
+  pub wide : 0 < w
+  pub narrow : w ≤ 16384
+  pub high : 0 < h
+  pub low : h ≤ 16384
+  pub levels : nx ≤ 5
+  pub fewer : ny ≤ 2
+  pub no-more : ny ≤ nx
+  pub two-across : (d : ℕ) → d < nx → 2 ≤ low-size w d
+  pub two-down : (d : ℕ) → d < ny → 2 ≤ low-size h d
+
+-- every cell at exit is Annex E's sample of the bands that stood in the cells at entry
+pub record Transformed (w h nx ny : ℕ) (l l′ : List ℤ) : Type 0 where
+  pub same : length l′ ≡ length l
+  pub made : (x y : ℕ) → x < w → y < h → sample-at w l′ x y ≡ inverse samples w h nx ny (bands (sample-at w l)) x y
