@@ -2,7 +2,7 @@
 -- kept. The whole filter is two sweeps in place, over the even samples and then over the odd ones. Assumes nothing.
 use mathlib.Core.Path.{_≡_, refl, sym, ap, _∙_}
 use mathlib.Core.Bool.{Bool, true, false, cond}
-use Prim.Native.Nat.{ℕ, zero, suc, _+_, _*_, _-_, _%_, _≤_, _<_, min}
+use Prim.Native.Nat.{ℕ, zero, suc, _+_, _*_, _-_, _%_, _≤_, _<_}
 use native.Mathlib.Decide.{ℕ-discrete, decLt}
 use native.Mathlib.Omega.{arith}
 use borrow.Author.Tests.{lt-ltb, le-ltb, eq-eqb, ne-eqb}
@@ -12,10 +12,7 @@ use lib.Signed.{shrZ}
 use Rattle.whole.specs.Numbers.{gap}
 use Rattle.whole.proofs.Linear.{eqZ, subZ}
 use Rattle.wavelet.specs.Filter.{extended, Steps, even-out, odd-out, filter, samples}
-
--- the sample right of i, mirrored at the line's end; the sample left of i stands at gap i 1
-abbrev pub right : ℕ → ℕ → ℕ
-right Z i = min (i + 1) (gap (2 * (Z - 1)) (i + 1))
+use Rattle.wavelet.specs.Sweeps.{right, step, swept}
 
 -- a step that takes its two neighbours in either order, as all of ours do
 pub record Even-handed {A : Type 0} (S : Steps A) : Type 0 where
@@ -89,13 +86,6 @@ module _ {A : Type 0} (S : Steps A) (Z : ℕ) (two : 2 ≤ Z) (X : ℕ → A) wh
       (even-out-right handed i h ∙ sym (filter-even-out (right Z i) (omega arith)))
 
 -- ---- two sweeps in place
-
--- a sweep over the samples whose place is b modulo 2
-abbrev pub step : {A : Type 0} → Steps A → ℕ → A → A → A → A
-step S b x l r = cond (eqb b 0) (S .even x l r) (S .odd x l r)
-
-unfoldable pub swept : {A : Type 0} → Steps A → ℕ → ℕ → (ℕ → A) → ℕ → A
-swept S b Z X i = cond (eqb (i % 2) b) (step S b (X i) (X (gap i 1)) (X (right Z i))) (X i)
 
 module _ {A : Type 0} (S : Steps A) (b Z : ℕ) (X : ℕ → A) where
   pub swept-on : (i : ℕ) → i % 2 ≡ b → swept S b Z X i ≡ step S b (X i) (X (gap i 1)) (X (right Z i))
