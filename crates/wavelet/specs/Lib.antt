@@ -4,4 +4,5 @@ pub mod Transform
 pub mod Places
 pub mod Sweeps
 pub mod Lines
+pub mod Grids
 pub mod Distance

@@ -34,13 +34,17 @@ place τ d i = i * 2 ^ d + τ * 2 ^ (d - 1)
 abbrev pub bands : Band ℤ → Kind → ℕ → ℕ → Band ℤ
 bands P k dx dy x y = P (place (τx k) dx x) (place (τy k) dy y)
 
--- a component that the transform takes: its cells, the levels of the built range, and two samples or more to every filter
-pub record Component (w h nx ny len : ℕ) : Type 0 where
+-- h rows of w samples that fill a slice of that length, of the built range
+pub record Sheet (w h len : ℕ) : Type 0 where
   pub all : h * w ≡ len
   pub wide : 0 < w
   pub narrow : w ≤ 16384
   pub high : 0 < h
   pub low : h ≤ 16384
+
+-- a component that the transform takes: the levels of the built range, and two samples or more to every filter
+pub record Component (w h nx ny len : ℕ) : Type 0 where
+  pub sheet : Sheet w h len
   pub levels : nx ≤ 5
   pub fewer : ny ≤ 2
   pub no-more : ny ≤ nx
