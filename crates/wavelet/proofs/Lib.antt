@@ -1,4 +1,7 @@
 -- Laws of the filter and the transform.
 pub mod Borders
+pub mod Sizes
 pub mod Related
 pub mod Within
+pub mod Transforms
+pub mod Components

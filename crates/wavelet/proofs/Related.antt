@@ -11,8 +11,9 @@ use lib.Dec.{eqb, ltb}
 use lib.IntN.{ℤ, pos, negsuc, _+ℤ_, _-ℤ_}
 use Rattle.whole.specs.Numbers.{ceilDiv, gap}
 use Rattle.wavelet.specs.Filter.{extended, Steps, even-out, odd-out, filter}
-use Rattle.wavelet.specs.Transform.{Band, woven, hor-transform, ver-transform}
+use Rattle.wavelet.specs.Transform.{Band, low-size, high-size, woven, hor-transform, ver-transform}
 use Rattle.wavelet.proofs.Borders.{one-less}
+use Rattle.wavelet.proofs.Sizes.{low-half}
 
 -- what the two steps ask for a filter to join a low part that is L-related and a high part that is H-related: its even samples are E-related, and
 -- all of its samples P-related
@@ -45,11 +46,11 @@ module _ {A B C : Type 0} (Z : ℕ) (two : 2 ≤ Z) (X : ℕ → A) (X′ : ℕ 
 -- ---- the filter
 
 module _ {A : Type 0} (a h : ℕ → A) where
-  woven-low : (k : ℕ) → k % 2 ≡ 0 → woven a h k ≡ a (k / 2)
+  pub woven-low : (k : ℕ) → k % 2 ≡ 0 → woven a h k ≡ a (k / 2)
   unfolding woven
   woven-low k e = rw (eq-eqb (k % 2) 0 e)
 
-  woven-high : (k : ℕ) → k % 2 ≡ 1 → woven a h k ≡ h (k / 2)
+  pub woven-high : (k : ℕ) → k % 2 ≡ 1 → woven a h k ≡ h (k / 2)
   unfolding woven
   woven-high k e = rw (ne-eqb (k % 2) 0 (omega arith))
 
@@ -88,14 +89,18 @@ module _ {A B C : Type 0} {S : Steps A} {S′ : Steps B} {S″ : Steps C} {L H E
         at-high : (k : ℕ) → k < Z → k % 2 ≡ 1 → H (woven a h k) (woven a′ h′ k) (woven a″ h″ k)
         at-high k l e = rw (woven-high a h k e, woven-high a′ h′ k e, woven-high a″ h″ k e) (high (k / 2) (omega arith))
 
-  -- bands: a row of a low-pass and a high-pass band makes a row of the band that joins them across, and a column one of the band that joins them down
-  module _ (a h : Band A) (a′ h′ : Band B) (a″ h″ : Band C) where
-    pub hor-keeps : (y : ℕ) → ((i : ℕ) → i < ceilDiv Z 2 → L (a i y) (a′ i y) (a″ i y)) → ((i : ℕ) → i < Z / 2 → H (h i y) (h′ i y) (h″ i y))
-        → (x : ℕ) → x < Z → P (hor-transform S Z a h x y) (hor-transform S′ Z a′ h′ x y) (hor-transform S″ Z a″ h″ x y)
-    unfolding hor-transform
-    hor-keeps y = woven-keeps
+-- ---- bands: with B.2's sizes of the two inputs at depth d and of the output one level up. The rows, or columns, are any that both inputs have
 
-    pub ver-keeps : (x : ℕ) → ((i : ℕ) → i < ceilDiv Z 2 → L (a x i) (a′ x i) (a″ x i)) → ((i : ℕ) → i < Z / 2 → H (h x i) (h′ x i) (h″ x i))
-        → (y : ℕ) → y < Z → P (ver-transform S Z a h x y) (ver-transform S′ Z a′ h′ x y) (ver-transform S″ Z a″ h″ x y)
-    unfolding ver-transform
-    ver-keeps x = woven-keeps
+module _ {A B C : Type 0} {S : Steps A} {S′ : Steps B} {S″ : Steps C} {L H E P : A → B → C → Type 0} (joins : Joins S S′ S″ L H E P) (n d : ℕ) (up : 0 < d)
+    (two : 2 ≤ low-size n (d - 1)) (a h : Band A) (a′ h′ : Band B) (a″ h″ : Band C) where
+  pub hor-keeps : (y : ℕ) → ((i : ℕ) → i < low-size n d → L (a i y) (a′ i y) (a″ i y)) → ((i : ℕ) → i < high-size n d → H (h i y) (h′ i y) (h″ i y))
+      → (x : ℕ) → x < low-size n (d - 1)
+      → P (hor-transform S (low-size n (d - 1)) a h x y) (hor-transform S′ (low-size n (d - 1)) a′ h′ x y) (hor-transform S″ (low-size n (d - 1)) a″ h″ x y)
+  unfolding hor-transform
+  hor-keeps y low high = woven-keeps joins (low-size n (d - 1)) two (λ i l. low i (rw (low-half n d up) at l)) high
+
+  pub ver-keeps : (x : ℕ) → ((i : ℕ) → i < low-size n d → L (a x i) (a′ x i) (a″ x i)) → ((i : ℕ) → i < high-size n d → H (h x i) (h′ x i) (h″ x i))
+      → (y : ℕ) → y < low-size n (d - 1)
+      → P (ver-transform S (low-size n (d - 1)) a h x y) (ver-transform S′ (low-size n (d - 1)) a′ h′ x y) (ver-transform S″ (low-size n (d - 1)) a″ h″ x y)
+  unfolding ver-transform
+  ver-keeps x low high = woven-keeps joins (low-size n (d - 1)) two (λ i l. low i (rw (low-half n d up) at l)) high

@@ -1,7 +1,7 @@
 -- Document 01's distance rule at a step, at a filter and at a band: what the two samples may differ by, and how large one sample may be. Assumes nothing.
 use mathlib.Core.Path.{_≡_, refl}
-use Prim.Native.Nat.{ℕ, _+_, _*_, _/_, _≤_, _<_}
-use native.Mathlib.Nat.{le-trans}
+use Prim.Native.Nat.{ℕ, _+_, _*_, _/_, _%_, _≤_, _<_}
+use native.Mathlib.Nat.{le-trans, le-refl}
 use native.Mathlib.Omega.{arith}
 use lib.IntN.{ℤ, pos, natAbs, _+ℤ_, _-ℤ_}
 use lib.Signed.{shrZ}
@@ -10,7 +10,7 @@ use Rattle.whole.proofs.Within.{within-refl, within-le, within-add, within-sub,
 use Rattle.wavelet.specs.Filter.{Steps, filter, even-step, odd-step, samples}
 use Rattle.wavelet.specs.Transform.{Band, woven, hor-transform, ver-transform}
 use Rattle.wavelet.specs.Distance.{numbers, joined}
-use Rattle.wavelet.proofs.Related.{Joins, Keeps, woven-keeps}
+use Rattle.wavelet.proofs.Related.{Joins, Keeps, woven-low, woven-high, filter-keeps}
 
 -- ---- the two steps
 
@@ -46,24 +46,38 @@ pub joining : (a h : ℕ) → Joins numbers numbers numbers (λ n _ _. n ≤ a) 
 unfolding numbers
 joining a h = record { at-even = λ p q s. omega arith; at-odd = λ p q s. omega arith; of-even = λ p. omega arith }
 
--- ---- a line, and so a row or a column of a band, of Z samples: its low-pass samples at most a in size, its high-pass samples at most h
+-- ---- a line of Z samples, and so a row or a column of a band
 
 module _ (Z : ℕ) (two : 2 ≤ Z) {a h : ℕ} where
-  line-size : (l u : ℕ → ℤ) → ((i : ℕ) → i < ceilDiv Z 2 → natAbs (l i) ≤ a) → ((i : ℕ) → i < Z / 2 → natAbs (u i) ≤ h)
+  pub filter-joined : (N : ℕ → ℕ) → ((k : ℕ) → k < Z → k % 2 ≡ 0 → N k ≤ a) → ((k : ℕ) → k < Z → k % 2 ≡ 1 → N k ≤ h)
+      → (i : ℕ) → i < Z → filter numbers Z N i ≤ joined a h
+  filter-joined N = filter-keeps (joining a h) Z two N N N
+
+  -- low-pass samples of at most a in size and high-pass samples of at most h
+  pub filter-size : (X : ℕ → ℤ) → ((k : ℕ) → k < Z → k % 2 ≡ 0 → natAbs (X k) ≤ a) → ((k : ℕ) → k < Z → k % 2 ≡ 1 → natAbs (X k) ≤ h)
+      → (i : ℕ) → i < Z → natAbs (filter samples Z X i) ≤ joined a h
+  filter-size X low high i inside = le-trans (filter-keeps sizes Z two X size size own own i inside) (filter-joined size low high i inside)
+    where
+      size : ℕ → ℕ
+      size k = natAbs (X k)
+
+      own : {b : ℕ} (k : ℕ) → k < Z → k % 2 ≡ b → natAbs (X k) ≤ size k
+      own k _ _ = le-refl (natAbs (X k))
+
+  woven-size : (l u : ℕ → ℤ) → ((i : ℕ) → i < ceilDiv Z 2 → natAbs (l i) ≤ a) → ((i : ℕ) → i < Z / 2 → natAbs (u i) ≤ h)
       → (i : ℕ) → i < Z → natAbs (filter samples Z (woven l u) i) ≤ joined a h
-  line-size l u low high i inside =
-      le-trans (woven-keeps sizes Z two {a′ = λ _. a} {h′ = λ _. h} {a″ = λ _. a} {h″ = λ _. h} low high i inside)
-      (woven-keeps (joining a h) Z two {a′ = λ _. a} {h′ = λ _. h} {a″ = λ _. a} {h″ = λ _. h} (λ _ _. omega arith) (λ _ _. omega arith) i inside)
+  woven-size l u low high =
+      filter-size (woven l u) (λ k c e. rw (woven-low l u k e) (low (k / 2) (omega arith))) (λ k c e. rw (woven-high l u k e) (high (k / 2) (omega arith)))
 
   pub hor-size : (L H : Band ℤ) (y : ℕ) → ((i : ℕ) → i < ceilDiv Z 2 → natAbs (L i y) ≤ a) → ((i : ℕ) → i < Z / 2 → natAbs (H i y) ≤ h)
       → (x : ℕ) → x < Z → natAbs (hor-transform samples Z L H x y) ≤ joined a h
   unfolding hor-transform
-  hor-size L H y = line-size (λ i. L i y) (λ i. H i y)
+  hor-size L H y = woven-size (λ i. L i y) (λ i. H i y)
 
   pub ver-size : (L H : Band ℤ) (x : ℕ) → ((i : ℕ) → i < ceilDiv Z 2 → natAbs (L x i) ≤ a) → ((i : ℕ) → i < Z / 2 → natAbs (H x i) ≤ h)
       → (y : ℕ) → y < Z → natAbs (ver-transform samples Z L H x y) ≤ joined a h
   unfolding ver-transform
-  ver-size L H x = line-size (L x) (H x)
+  ver-size L H x = woven-size (L x) (H x)
 
 -- parts of at most b make at most 3 b: a factor for each filter, where a cell must hold what it makes
 pub joined-thrice : (b : ℕ) → joined b b ≤ 3 * b
