@@ -1,55 +1,56 @@
 -- A whole component: its samples depend on its own coefficients alone, and document 01's distance rule holds of them, place by place and with one
 -- number for each band. Assumes nothing.
-use mathlib.Core.Path.{_≡_, refl, ap}
+use mathlib.Core.Path.{_≡_, ap}
 use Prim.Native.Nat.{ℕ, _+_, _*_, _-_, _^_, _≤_, _<_}
 use native.Mathlib.Nat.{le-trans, le-refl, add-mul, mul-assoc}
 use native.Mathlib.Omega.{arith}
 use lib.IntN.{ℤ, natAbs}
-use Rattle.whole.specs.Numbers.{ceilDiv, Within}
+use Rattle.whole.specs.Numbers.{Within}
 use Rattle.whole.proofs.Within.{within-le}
 use Rattle.wavelet.specs.Filter.{Steps, samples}
-use Rattle.wavelet.specs.Transform.{Kind, LL, HL, LH, HH, Band, low-size, hor-transform, ver-transform, inverse}
+use Rattle.wavelet.specs.Transform.{Kind, LL, HL, LH, HH, Band, inverse}
+use Rattle.wavelet.specs.Places.{τx, τy, place, bands, Component}
 use Rattle.wavelet.specs.Distance.{numbers, joined, component-number}
-use Rattle.wavelet.proofs.Related.{Keeps, hor-keeps, ver-keeps}
-use Rattle.wavelet.proofs.Sizes.{low-all}
+use Rattle.wavelet.proofs.Related.{equal, hor-at, ver-at, hor-keeps, ver-keeps}
+use Rattle.wavelet.proofs.Halves.{low-all, low-inside, high-inside}
 use Rattle.wavelet.proofs.Within.{distances, sizes, joining}
-use Rattle.wavelet.proofs.Transforms.{Has, columns, rows, Coefficient, Levels, Climbs, table-keeps, inverse-keeps}
+use Rattle.wavelet.proofs.Transforms.{Has, columns, rows, Coefficient, Decomposed, Climbs, table-keeps, inverse-keeps}
 
 -- ---- place by place
 
-same : {A : Type 0} (S : Steps A) → Keeps S S S (λ x y _. x ≡ y)
-same S = record { at-even = λ p q r. cc; at-odd = λ p q r. cc; of-even = λ p. p }
-
-module _ {W H Nx Ny : ℕ} (levels : Levels W H Nx Ny) where
+module _ {W H Nx Ny : ℕ} (parts : Decomposed W H Nx Ny) where
   -- equal coefficients make equal samples
   pub inverse-same : {A : Type 0} (S : Steps A) (T T′ : Kind → ℕ → ℕ → Band A)
       → ((k : Kind) (dx dy x y : ℕ) → Coefficient W H Nx Ny k dx dy x y → T k dx dy x y ≡ T′ k dx dy x y)
       → (x y : ℕ) → x < W → y < H → inverse S W H Nx Ny T x y ≡ inverse S W H Nx Ny T′ x y
-  inverse-same S T T′ = inverse-keeps (same S) levels T T′ T′
+  inverse-same S T T′ = inverse-keeps (equal S) parts T T′ T′
 
   -- coefficients that differ by at most their numbers make samples that differ by at most theirs
   pub inverse-within : (T T′ : Kind → ℕ → ℕ → Band ℤ) (N : Kind → ℕ → ℕ → Band ℕ)
       → ((k : Kind) (dx dy x y : ℕ) → Coefficient W H Nx Ny k dx dy x y → Within (N k dx dy x y) (T k dx dy x y) (T′ k dx dy x y))
       → (x y : ℕ) → x < W → y < H → Within (inverse numbers W H Nx Ny N x y) (inverse samples W H Nx Ny T x y) (inverse samples W H Nx Ny T′ x y)
-  inverse-within = inverse-keeps distances levels
+  inverse-within = inverse-keeps distances parts
 
   -- coefficients of at most their numbers in size make samples of at most theirs
   pub inverse-size : (T : Kind → ℕ → ℕ → Band ℤ) (N : Kind → ℕ → ℕ → Band ℕ)
       → ((k : Kind) (dx dy x y : ℕ) → Coefficient W H Nx Ny k dx dy x y → natAbs (T k dx dy x y) ≤ N k dx dy x y)
       → (x y : ℕ) → x < W → y < H → natAbs (inverse samples W H Nx Ny T x y) ≤ inverse numbers W H Nx Ny N x y
-  inverse-size T N = inverse-keeps sizes levels T N N
+  inverse-size T N = inverse-keeps sizes parts T N N
 
   -- ---- one number for each band
 
   abbrev All-most : Kind → ℕ → ℕ → Band ℕ → ℕ → ℕ → Type 0
   All-most k dx dy a n _ = (x y : ℕ) → x < columns W k dx → y < rows H k dy → a x y ≤ n
 
-  climbs : Climbs Nx Ny All-most (λ d. hor-transform numbers (low-size W d)) (λ d. ver-transform numbers (low-size H d)) (λ _. joined) (λ _. joined) (λ _. joined) (λ _. joined)
+  climbs : Climbs Nx Ny All-most (hor-at numbers W) (ver-at numbers H) (λ _. joined) (λ _. joined) (λ _. joined) (λ _. joined)
   climbs =
       record {
-        low = λ d _ has {a} {h} {a′} {h′} p q x y c r. hor-keeps (joining a′ h′) W d (has .0) (levels .two-across (d - 1) (omega arith)) a h a h a h y (λ i l. p i y l r) (λ i l. q i y l r) x c;
-        high = λ d has {a} {h} {a′} {h′} p q x y c r. hor-keeps (joining a′ h′) W d (has .0) (levels .two-across (d - 1) (omega arith)) a h a h a h y (λ i l. p i y l r) (λ i l. q i y l r) x c;
-        join = λ d has {a} {h} {a′} {h′} p q x y c r. ver-keeps (joining a′ h′) H d (has .0) (levels .two-down (d - 1) (omega arith)) a h a h a h x (λ i l. p x i c l) (λ i l. q x i c l) y r;
+        low = λ d _ has {a} {h} {a′} {h′} p q x y c r.
+            hor-keeps (joining a′ h′) W d (has .0) (parts .two-across (d - 1) (omega arith)) a h a h a h y (λ i l. p i y l r) (λ i l. q i y l r) x c;
+        high = λ d has {a} {h} {a′} {h′} p q x y c r.
+            hor-keeps (joining a′ h′) W d (has .0) (parts .two-across (d - 1) (omega arith)) a h a h a h y (λ i l. p i y l r) (λ i l. q i y l r) x c;
+        join = λ d has {a} {h} {a′} {h′} p q x y c r.
+            ver-keeps (joining a′ h′) H d (has .0) (parts .two-down (d - 1) (omega arith)) a h a h a h x (λ i l. p x i c l) (λ i l. q x i c l) y r;
       }
 
   -- no sample's number is above the component's
@@ -58,7 +59,8 @@ module _ {W H Nx Ny : ℕ} (levels : Levels W H Nx Ny) where
       → (x y : ℕ) → x < W → y < H → inverse numbers W H Nx Ny N x y ≤ component-number Nx Ny M
   unfolding inverse component-number
   inverse-joined N M given x y c r =
-      table-keeps climbs N M M (λ k dx dy has x y c r. given k dx dy x y (record { has = has; column = c; row = r })) (levels .no-more) x y (rw low-all c) (rw low-all r)
+      table-keeps climbs N M M (λ k dx dy has x y c r. given k dx dy x y (record { has = has; column = c; row = r })) (parts .no-more) x y
+      (rw low-all c) (rw low-all r)
 
   -- rules 1 and 2: coefficients that differ by at most their band's number make samples that differ by at most the component's
   module _ (M : Kind → ℕ → ℕ → ℕ) where
@@ -124,14 +126,30 @@ module _ (Nx Ny : ℕ) (no-more : Ny ≤ Nx) where
   component-exact M given = omega (arith, component-most M 0 (λ k dx dy has. omega (arith, given k dx dy has)))
 
 -- coefficients of at most B in size: what a cell must hold
-pub inverse-most : {W H Nx Ny : ℕ} (levels : Levels W H Nx Ny) (T : Kind → ℕ → ℕ → Band ℤ) (B : ℕ)
+pub inverse-most : {W H Nx Ny : ℕ} (parts : Decomposed W H Nx Ny) (T : Kind → ℕ → ℕ → Band ℤ) (B : ℕ)
     → ((k : Kind) (dx dy x y : ℕ) → Coefficient W H Nx Ny k dx dy x y → natAbs (T k dx dy x y) ≤ B)
     → (x y : ℕ) → x < W → y < H → natAbs (inverse samples W H Nx Ny T x y) ≤ (1 + 2 * Nx + 5 * Ny) * B
-inverse-most {Nx = Nx} {Ny = Ny} levels T B given x y c r =
-    le-trans (component-size levels (λ _ _ _. B) T given x y c r) (component-most Nx Ny (levels .no-more) (λ _ _ _. B) B (λ _ _ _ _. le-refl B))
+inverse-most {Nx = Nx} {Ny = Ny} parts T B given x y c r =
+    le-trans (component-size parts (λ _ _ _. B) T given x y c r) (component-most Nx Ny (parts .no-more) (λ _ _ _. B) B (λ _ _ _ _. le-refl B))
 
--- and with the levels of the built range
-pub inverse-small : {W H Nx Ny : ℕ} (levels : Levels W H Nx Ny) → Nx ≤ 5 → Ny ≤ 2 → (T : Kind → ℕ → ℕ → Band ℤ)
-    → ((k : Kind) (dx dy x y : ℕ) → Coefficient W H Nx Ny k dx dy x y → natAbs (T k dx dy x y) ≤ 2 ^ 40)
-    → (x y : ℕ) → x < W → y < H → natAbs (inverse samples W H Nx Ny T x y) < 2 ^ 45
-inverse-small {Nx = Nx} {Ny = Ny} levels five two T given x y c r = omega (arith, inverse-most levels T (2 ^ 40) given x y c r)
+-- ---- a component's coefficients in its cells
+
+-- a component that the transform takes
+pub decomposed : {w h nx ny len : ℕ} → Component w h nx ny len → Decomposed w h nx ny
+decomposed c = record { no-more = c .no-more; two-across = c .two-across; two-down = c .two-down }
+
+-- each coefficient has its place in it
+pub placed : {W H Nx Ny : ℕ} {k : Kind} {dx dy x y : ℕ} → Coefficient W H Nx Ny k dx dy x y → (place (τx k) dx x < W) × (place (τy k) dy y < H)
+placed {W} {H} {Nx} {Ny} {k} {dx} {dy} {x} {y} c = at k (c .has) (c .column) (c .row)
+  where
+    at : (k : Kind) → Has Nx Ny k dx dy → x < columns W k dx → y < rows H k dy → (place (τx k) dx x < W) × (place (τy k) dy y < H)
+    at LL has c r = (low-inside W dx x c, low-inside H dy y r)
+    at HL has c r = (high-inside W dx x (has .0) c, low-inside H dy y r)
+    at LH has c r = (low-inside W dx x c, high-inside H dy y (omega arith) r)
+    at HH has c r = (high-inside W dx x (has .0) c, high-inside H dy y (omega arith) r)
+
+-- with the levels of the built range: cells of at most 2 ^ 40 in size become samples below 2 ^ 45
+pub inverse-small : {w h nx ny len : ℕ} → Component w h nx ny len → (P : Band ℤ) → ((c r : ℕ) → c < w → r < h → natAbs (P c r) ≤ 2 ^ 40)
+    → (x y : ℕ) → x < w → y < h → natAbs (inverse samples w h nx ny (bands P) x y) < 2 ^ 45
+inverse-small {nx = nx} {ny = ny} c P most x y l m =
+    omega (arith, c .levels, c .fewer, inverse-most (decomposed c) (bands P) (2 ^ 40) (λ k dx dy x y i. most _ _ (placed i .0) (placed i .1)) x y l m)

@@ -1,6 +1,6 @@
 -- Laws of the filter and the transform.
 pub mod Borders
-pub mod Sizes
+pub mod Halves
 pub mod Related
 pub mod Within
 pub mod Transforms

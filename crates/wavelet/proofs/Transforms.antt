@@ -1,16 +1,15 @@
 -- Table E.1 keeps every relation between its bands that joining two of them keeps, and so the whole transform keeps every relation that the
 -- steps of its filter keep. Assumes nothing.
-use mathlib.Core.Path.{_≡_, refl, sym}
-use Prim.Native.Nat.{ℕ, zero, suc, _+_, _*_, _-_, _/_, _^_, _≤_, _<_, min}
+use mathlib.Core.Path.{_≡_, refl}
+use Prim.Native.Nat.{ℕ, zero, suc, _+_, _-_, _≤_, _<_, min}
 use native.Mathlib.Nat.{add-zero, zero-add}
 use native.Mathlib.Omega.{arith}
-use Rattle.whole.specs.Numbers.{ceilDiv}
 use Rattle.wavelet.specs.Filter.{Steps}
-use Rattle.wavelet.specs.Transform.{Kind, LL, HL, LH, HH, Band, low-size, high-size, hor-transform, ver-transform, down, across, both, table-E1, inverse}
-use Rattle.wavelet.proofs.Related.{Keeps, hor-keeps, ver-keeps}
-use Rattle.wavelet.proofs.Sizes.{low-half, low-all}
+use Rattle.wavelet.specs.Transform.{Kind, LL, HL, LH, HH, Band, low-size, high-size, down, across, both, table-E1, inverse}
+use Rattle.wavelet.proofs.Related.{Keeps, hor-at, ver-at, hor-keeps, ver-keeps}
+use Rattle.wavelet.proofs.Halves.{low-all}
 
--- B.2, B.3: the filter types of a component with Nx levels across and Ny, no more, down
+-- B.2, B.3: the filter types of a component with Nx parts across and Ny, no more, down
 abbrev pub Has : ℕ → ℕ → Kind → ℕ → ℕ → Type 0
 Has Nx Ny LL dx dy = (dx ≡ Nx) × (dy ≡ Ny)
 Has Nx Ny HL dx dy = (0 < dx) × (dx ≤ Nx) × (dy ≡ min dx Ny)
@@ -40,8 +39,9 @@ module _ {X Y W : Type 0} (Nx Ny : ℕ) (R : Kind → ℕ → ℕ → X → Y �
     pub join : (d : ℕ) → Has Nx Ny LH d d → {a h : X} {a′ h′ : Y} {a″ h″ : W} → R LL (d - 1) d a a′ a″ → R LH (d - 1) d h h′ h″
         → R LL (d - 1) (d - 1) (ver (d - 1) a h) (ver′ (d - 1) a′ h′) (ver″ (d - 1) a″ h″)
 
-module _ {X Y W : Type 0} {Nx Ny : ℕ} {R : Kind → ℕ → ℕ → X → Y → W → Type 0} {hor ver : ℕ → X → X → X} {hor′ ver′ : ℕ → Y → Y → Y} {hor″ ver″ : ℕ → W → W → W}
-    (climbs : Climbs Nx Ny R hor ver hor′ ver′ hor″ ver″) (T : Kind → ℕ → ℕ → X) (T′ : Kind → ℕ → ℕ → Y) (T″ : Kind → ℕ → ℕ → W)
+module _ {X Y W : Type 0} {Nx Ny : ℕ} {R : Kind → ℕ → ℕ → X → Y → W → Type 0} {hor ver : ℕ → X → X → X}
+    {hor′ ver′ : ℕ → Y → Y → Y} {hor″ ver″ : ℕ → W → W → W} (climbs : Climbs Nx Ny R hor ver hor′ ver′ hor″ ver″)
+    (T : Kind → ℕ → ℕ → X) (T′ : Kind → ℕ → ℕ → Y) (T″ : Kind → ℕ → ℕ → W)
     (given : (k : Kind) (dx dy : ℕ) → Has Nx Ny k dx dy → R k dx dy (T k dx dy) (T′ k dx dy) (T″ k dx dy)) where
   one-across : (dx : ℕ) → Ny < dx → dx ≤ Nx → {s : X} {s′ : Y} {s″ : W} → R LL dx Ny s s′ s″
       → R LL (dx - 1) Ny (across hor ver T Ny dx s) (across hor′ ver′ T′ Ny dx s′) (across hor″ ver″ T″ Ny dx s″)
@@ -61,8 +61,8 @@ module _ {X Y W : Type 0} {Nx Ny : ℕ} {R : Kind → ℕ → ℕ → X → Y �
       rw e
       (down-keeps (λ d. R LL d d) (both hor ver T) (both hor′ ver′ T′) (both hor″ ver″ T″) 0 Ny (λ d s s′ s″ l h. one-both d l (omega arith) fewer)
       (rw zero-add
-      (down-keeps (λ d. R LL d Ny) (across hor ver T Ny) (across hor′ ver′ T′ Ny) (across hor″ ver″ T″ Ny) Ny (Nx - Ny) (λ d s s′ s″ l h. one-across d l (omega arith))
-      (rw all (given LL Nx Ny (refl, refl))))))
+      (down-keeps (λ d. R LL d Ny) (across hor ver T Ny) (across hor′ ver′ T′ Ny) (across hor″ ver″ T″ Ny) Ny (Nx - Ny)
+      (λ d s s′ s″ l h. one-across d l (omega arith)) (rw all (given LL Nx Ny (refl, refl))))))
 
 -- ---- the whole transform
 
@@ -85,22 +85,26 @@ pub record Coefficient (W H Nx Ny : ℕ) (k : Kind) (dx dy x y : ℕ) : Type 0 w
   pub column : x < columns W k dx
   pub row : y < rows H k dy
 
--- levels that such a component can have: no more down than across, and two samples or more to every filter
-pub record Levels (W H Nx Ny : ℕ) : Type 0 where
+-- it can be made of Nx levels across and Ny down: no more down than across, and two samples or more to every filter
+pub record Decomposed (W H Nx Ny : ℕ) : Type 0 where
   pub no-more : Ny ≤ Nx
   pub two-across : (d : ℕ) → d < Nx → 2 ≤ low-size W d
   pub two-down : (d : ℕ) → d < Ny → 2 ≤ low-size H d
 
-module _ {A B C : Type 0} {S : Steps A} {S′ : Steps B} {S″ : Steps C} {Q : A → B → C → Type 0} (keeps : Keeps S S′ S″ Q) {W H Nx Ny : ℕ} (levels : Levels W H Nx Ny) where
+module _ {A B C : Type 0} {S : Steps A} {S′ : Steps B} {S″ : Steps C} {Q : A → B → C → Type 0} (keeps : Keeps S S′ S″ Q)
+    {W H Nx Ny : ℕ} (parts : Decomposed W H Nx Ny) where
   abbrev Everywhere : Kind → ℕ → ℕ → Band A → Band B → Band C → Type 0
   Everywhere k dx dy a b c = (x y : ℕ) → x < columns W k dx → y < rows H k dy → Q (a x y) (b x y) (c x y)
 
-  climbs : Climbs Nx Ny Everywhere (λ d. hor-transform S (low-size W d)) (λ d. ver-transform S (low-size H d)) (λ d. hor-transform S′ (low-size W d)) (λ d. ver-transform S′ (low-size H d)) (λ d. hor-transform S″ (low-size W d)) (λ d. ver-transform S″ (low-size H d))
+  climbs : Climbs Nx Ny Everywhere (hor-at S W) (ver-at S H) (hor-at S′ W) (ver-at S′ H) (hor-at S″ W) (ver-at S″ H)
   climbs =
       record {
-        low = λ d _ has p q x y c r. hor-keeps keeps W d (has .0) (levels .two-across (d - 1) (omega arith)) _ _ _ _ _ _ y (λ i l. p i y l r) (λ i l. q i y l r) x c;
-        high = λ d has p q x y c r. hor-keeps keeps W d (has .0) (levels .two-across (d - 1) (omega arith)) _ _ _ _ _ _ y (λ i l. p i y l r) (λ i l. q i y l r) x c;
-        join = λ d has p q x y c r. ver-keeps keeps H d (has .0) (levels .two-down (d - 1) (omega arith)) _ _ _ _ _ _ x (λ i l. p x i c l) (λ i l. q x i c l) y r;
+        low = λ d _ has p q x y c r.
+            hor-keeps keeps W d (has .0) (parts .two-across (d - 1) (omega arith)) _ _ _ _ _ _ y (λ i l. p i y l r) (λ i l. q i y l r) x c;
+        high = λ d has p q x y c r.
+            hor-keeps keeps W d (has .0) (parts .two-across (d - 1) (omega arith)) _ _ _ _ _ _ y (λ i l. p i y l r) (λ i l. q i y l r) x c;
+        join = λ d has p q x y c r.
+            ver-keeps keeps H d (has .0) (parts .two-down (d - 1) (omega arith)) _ _ _ _ _ _ x (λ i l. p x i c l) (λ i l. q x i c l) y r;
       }
 
   pub inverse-keeps : (T : Kind → ℕ → ℕ → Band A) (T′ : Kind → ℕ → ℕ → Band B) (T″ : Kind → ℕ → ℕ → Band C)
@@ -108,4 +112,5 @@ module _ {A B C : Type 0} {S : Steps A} {S′ : Steps B} {S″ : Steps C} {Q : A
       → (x y : ℕ) → x < W → y < H → Q (inverse S W H Nx Ny T x y) (inverse S′ W H Nx Ny T′ x y) (inverse S″ W H Nx Ny T″ x y)
   unfolding inverse
   inverse-keeps T T′ T″ given x y c r =
-      table-keeps climbs T T′ T″ (λ k dx dy has x y c r. given k dx dy x y (record { has = has; column = c; row = r })) (levels .no-more) x y (rw low-all c) (rw low-all r)
+      table-keeps climbs T T′ T″ (λ k dx dy has x y c r. given k dx dy x y (record { has = has; column = c; row = r })) (parts .no-more) x y
+      (rw low-all c) (rw low-all r)

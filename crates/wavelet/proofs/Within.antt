@@ -1,13 +1,12 @@
 -- Document 01's distance rule at a step, at a filter and at a band: what the two samples may differ by, and how large one sample may be. Assumes nothing.
-use mathlib.Core.Path.{_≡_, refl}
+use mathlib.Core.Path.{_≡_}
 use Prim.Native.Nat.{ℕ, _+_, _*_, _/_, _%_, _≤_, _<_}
 use native.Mathlib.Nat.{le-trans, le-refl}
 use native.Mathlib.Omega.{arith}
-use lib.IntN.{ℤ, pos, natAbs, _+ℤ_, _-ℤ_}
-use lib.Signed.{shrZ}
+use lib.IntN.{ℤ, pos, natAbs}
 use Rattle.whole.specs.Numbers.{ceilDiv, Within}
 use Rattle.whole.proofs.Within.{within-refl, within-le, within-add, within-sub, within-shr, within-of-size, size-of-within}
-use Rattle.wavelet.specs.Filter.{Steps, filter, even-step, odd-step, samples}
+use Rattle.wavelet.specs.Filter.{filter, even-step, odd-step, samples}
 use Rattle.wavelet.specs.Transform.{Band, woven, hor-transform, ver-transform}
 use Rattle.wavelet.specs.Distance.{numbers, joined}
 use Rattle.wavelet.proofs.Related.{Joins, Keeps, woven-low, woven-high, filter-keeps}
