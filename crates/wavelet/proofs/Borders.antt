@@ -18,7 +18,7 @@ use Rattle.wavelet.specs.Sweeps.{right, step, swept}
 pub record Even-handed {A : Type 0} (S : Steps A) : Type 0 where
   pub swap : (x l r : A) → S .even x l r ≡ S .even x r l
 
-one-less : (i j : ℕ) → i ≡ j + 1 → pos i -ℤ pos 1 ≡ pos j
+pub one-less : (i j : ℕ) → i ≡ j + 1 → pos i -ℤ pos 1 ≡ pos j
 one-less i j e = eqZ (pos i -ℤ pos 1) (pos j) (omega (arith, subZ (pos i) (pos 1)))
 
 three : {A : Type 0} (f : A → A → A → A) {x x′ y y′ z z′ : A} → x ≡ x′ → y ≡ y′ → z ≡ z′ → f x y z ≡ f x′ y′ z′

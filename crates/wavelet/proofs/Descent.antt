@@ -115,23 +115,26 @@ module _ {w h nx ny len : ℕ} (C : Component w h nx ny len) where
     sheet = rw e (C .sheet);
     across-depth = omega (arith, C .levels);
     down-depth = omega (arith, C .fewer);
-    two = C .two-across (d - 1) (omega arith);
+    two = C .parts .two-across (d - 1) (omega arith);
   }
 
   -- and the second
   pub both-pass : {d len′ : ℕ} → len′ ≡ len → 0 < d → d ≤ ny → Pass w h (d - 1) (d - 1) (low-size w (d - 1)) len′ × (2 ≤ low-size h (d - 1))
-  both-pass {d} e above most = (record {
-    sheet = rw e (C .sheet);
-    across-depth = omega (arith, C .fewer);
-    down-depth = omega (arith, C .fewer);
-    two = C .two-across (d - 1) (omega (arith, C .no-more));
-  }, C .two-down (d - 1) (omega arith))
+  both-pass {d} e above most = (
+    record {
+      sheet = rw e (C .sheet);
+      across-depth = omega (arith, C .fewer);
+      down-depth = omega (arith, C .fewer);
+      two = C .parts .two-across (d - 1) (omega (arith, C .parts .no-more));
+    },
+    C .parts .two-down (d - 1) (omega arith),
+  )
 
   -- the two loops make Table E.1's output
   pub table-made : {l l₁ l₂ : List ℤ} → Descended w h (2 ^ ny) (2 ^ ny) (across-turn w h ny l) ny (nx - ny) (bands (sample-at w l) LL nx ny) (2 ^ 48) l l₁ → Finished w h ny l₁ l₂ → Transformed w h nx ny l l₂
   unfolding inverse table-E1
   table-made {l} {l₁} {l₂} first second =
-      let e : min nx ny ≡ ny = omega (arith, C .no-more) in
+      let e : min nx ny ≡ ny = omega (arith, C .parts .no-more) in
       let g = second .made (first .made) in
       record {
         same = g .same;

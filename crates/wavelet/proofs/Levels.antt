@@ -3,7 +3,7 @@
 use mathlib.Core.Path.{_≡_, refl, sym, ap, ap₂, _∙_}
 use mathlib.Core.List.{List}
 use Prim.Native.Nat.{ℕ, zero, suc, _+_, _*_, _-_, _/_, _%_, _^_, _≤_, _<_}
-use native.Mathlib.Nat.{mul-assoc, mul-comm, add-mul, one-mul, zero-mul, add-zero, mul-one, pow-suc, suc-mul, le-div-iff-mul-le, eq-of-mul-eq-mul-right}
+use native.Mathlib.Nat.{mul-assoc, mul-comm, add-mul, one-mul, zero-mul, add-zero, pow-suc, eq-of-mul-eq-mul-right}
 use native.Mathlib.Decide.{ℕ-discrete}
 use native.Mathlib.Omega.{arith}
 use borrow.Author.Tests.{eq-eqb, ne-eqb}
@@ -13,19 +13,13 @@ use lib.Pow.{pow-pos}
 use Rattle.whole.specs.Numbers.{ceilDiv}
 use Rattle.wavelet.specs.Filter.{filter, samples}
 use Rattle.wavelet.specs.Transform.{Kind, LL, HL, LH, HH, Band, woven, hor-transform, ver-transform, low-size}
-use Rattle.wavelet.specs.Places.{sample-at, bands, place, τx, τy}
+use Rattle.wavelet.specs.Bands.{τx, τy}
+use Rattle.wavelet.specs.Places.{sample-at, bands, place}
 use Rattle.wavelet.specs.Grids.{Gridded, rows-of, columns-of}
-use Rattle.wavelet.proofs.Lined.{filter-cong}
+use Rattle.wavelet.proofs.Halves.{below-size, size-above}
+use Rattle.wavelet.proofs.Related.{filter-cong}
 
 -- ---- places of the grid
-
--- the places of a line of n that are multiples of s are ceil(n / s)
-module _ {s : ℕ} (up : 0 < s) (n i : ℕ) where
-  pub below-size : i < ceilDiv n s → i * s < n
-  below-size h = omega (arith, le-div-iff-mul-le {k = s} {x = suc i} {y = n + (s - 1)} up .0 h, suc-mul i s)
-
-  pub size-above : i * s < n → i < ceilDiv n s
-  size-above h = le-div-iff-mul-le up .1 (omega (arith, suc-mul i s))
 
 -- the coarser grid's places are the finer one's even places, and half a step on are the odd ones
 finer : (s x : ℕ) → x * (s * 2) ≡ x * 2 * s
@@ -87,10 +81,10 @@ module _ (w h d n : ℕ) {low : Band ℤ} {l₀ l l′ : List ℤ} (two : 2 ≤ 
   across-level = record {
     same = rows .same ∙ before .same;
     on = λ x y hx hy. rows .on x y hx hy
-      ∙ filter-woven (2 ^ d) w (λ c. sample-at w l c (y * 2 ^ n)) (λ i. low i y) (λ i. bands (sample-at w l₀) HL (suc d) n i y)
-      (λ j hj. before .on j y hj hy)
-      (λ j hj. before .off (j * (2 ^ d * 2) + 2 ^ d) (y * 2 ^ n) hj hy (λ x′ y′ ex ey. between (2 ^ d) j x′ (pow-pos d) ex) ∙ stands w l₀ HL (suc d) n j y (high-place d j) (low-place n y))
-      (pow-pos d) two x hx;
+        ∙ filter-woven (2 ^ d) w (λ c. sample-at w l c (y * 2 ^ n)) (λ i. low i y) (λ i. bands (sample-at w l₀) HL (suc d) n i y)
+        (λ j hj. before .on j y hj hy)
+        (λ j hj. before .off (j * (2 ^ d * 2) + 2 ^ d) (y * 2 ^ n) hj hy (λ x′ y′ ex ey. between (2 ^ d) j x′ (pow-pos d) ex) ∙ stands w l₀ HL (suc d) n j y (high-place d j) (low-place n y))
+        (pow-pos d) two x hx;
     off = λ c r hc hr never. rows .off c r hc hr never ∙ before .off c r hc hr (λ x y ex ey. never (x * 2) y (ex ∙ finer (2 ^ d) x) ey);
   }
 
@@ -136,7 +130,7 @@ module _ (w h d : ℕ) {low : Band ℤ} {l₀ l l₁ l₂ : List ℤ} (two : 2 �
   both-level = record {
     same = columns .same ∙ rows .same ∙ before .same;
     on = λ x y hx hy. columns .on x y hx hy
-      ∙ filter-woven (2 ^ d) h (λ r. sample-at w l₁ (x * 2 ^ d) r) (over x) (under x) (λ j hj. even-row x j hx hj) (λ j hj. odd-row x j hx hj) (pow-pos d) two-down y hy;
+        ∙ filter-woven (2 ^ d) h (λ r. sample-at w l₁ (x * 2 ^ d) r) (over x) (under x) (λ j hj. even-row x j hx hj) (λ j hj. odd-row x j hx hj) (pow-pos d) two-down y hy;
     off = λ c r hc hr never. columns .off c r hc hr never ∙ rows .off c r hc hr never
-      ∙ before .off c r hc hr (λ x y ex ey. never (x * 2) (y * 2) (ex ∙ finer (2 ^ d) x) (ey ∙ finer (2 ^ d) y));
+        ∙ before .off c r hc hr (λ x y ex ey. never (x * 2) (y * 2) (ex ∙ finer (2 ^ d) x) (ey ∙ finer (2 ^ d) y));
   }

@@ -1,8 +1,10 @@
--- Laws of the filter and the transform.
+-- Laws of the filter and of the transform, each once.
 pub mod Borders
+pub mod Halves
 pub mod Related
 pub mod Within
-pub mod Lined
+pub mod Transforms
+pub mod Components
 pub mod Levels
 pub mod Passes
 pub mod Descent

@@ -18,13 +18,18 @@ use Rattle.wavelet.specs.Transform.{Band, low-size}
 use Rattle.wavelet.specs.Places.{sample-at, Sheet}
 use Rattle.wavelet.specs.Lines.{line, Grid, GridWithin, OntoGrid}
 use Rattle.wavelet.specs.Grids.{Gridded, Pass, SamplesWithin, rows-of, columns-of}
-use Rattle.wavelet.proofs.Lined.{filter-cong, filter-size}
-use Rattle.wavelet.proofs.Levels.{below-size, size-above}
+use Rattle.wavelet.proofs.Halves.{below-size, size-above}
+use Rattle.wavelet.proofs.Related.{filter-cong}
+use Rattle.wavelet.proofs.Within.{filter-size, joined-thrice}
 
 -- a cell has one row and one column
 pub one-place : {w : ℕ} (r c r′ c′ : ℕ) → c < w → c′ < w → r * w + c ≡ r′ * w + c′ → (r ≡ r′) × (c ≡ c′)
 one-place {w} r c r′ c′ h h′ e =
     (sym (digits-div r h) ∙ ap (λ (n : ℕ). n / w) e ∙ digits-div r′ h′, sym (digits-mod r h) ∙ ap (λ (n : ℕ). n % w) e ∙ digits-mod r′ h′)
+
+-- a line's samples grow by three at most
+thrice : (Z B : ℕ) → 2 ≤ Z → (X : ℕ → ℤ) → ((i : ℕ) → i < Z → natAbs (X i) ≤ B) → (i : ℕ) → i < Z → natAbs (filter samples Z X i) ≤ 3 * B
+thrice Z B two X most i h = le-trans (filter-size Z two X (λ k l _. most k l) (λ k l _. most k l) i h) (joined-thrice B)
 
 -- a pass seen along the other direction
 crossed : {a m b n : ℕ} {g : ℕ → ℕ → ℤ} {l l′ : List ℤ} → OntoGrid a m b n g l l′ → OntoGrid b n a m (λ k q. g q k) l l′
@@ -85,18 +90,18 @@ module _ {w h len : ℕ} (sheet : Sheet w h len) (dx dy : ℕ) where
     same = o .same;
     on = λ x y hx hy. ap (cell l′) (sym (by-rows y x)) ∙ o .on y x (size-above (pow-pos dy) h y hy) (size-above (pow-pos dx) w x hx);
     off = λ c r hc hr never. o .off (r * w + c) (λ q k hq hk e.
-      let p : (r ≡ q * 2 ^ dy) × (c ≡ k * 2 ^ dx) = one-place r c (q * 2 ^ dy) (k * 2 ^ dx) hc (below-size (pow-pos dx) w k hk) (e ∙ by-rows q k) in
-      never k q (p .1) (p .0));
+        let p : (r ≡ q * 2 ^ dy) × (c ≡ k * 2 ^ dx) = one-place r c (q * 2 ^ dy) (k * 2 ^ dx) hc (below-size (pow-pos dx) w k hk) (e ∙ by-rows q k) in
+        never k q (p .1) (p .0));
   }
 
   module _ {l l′ : List ℤ} where
     pub rows-made : 2 ≤ low-size w dx → OntoGrid (w * 2 ^ dy) (low-size h dy) (2 ^ dx) (low-size w dx) (λ q. filter samples (low-size w dx) (line (q * (w * 2 ^ dy)) (2 ^ dx) l)) l l′ → Gridded w h (2 ^ dx) (2 ^ dy) (rows-of w (2 ^ dx) (2 ^ dy) l) l l′
     rows-made two o = regridded (made o) (λ x y hx hy.
-      filter-cong samples (low-size w dx) two (line (y * (w * 2 ^ dy)) (2 ^ dx) l) (λ i. sample-at w l (i * 2 ^ dx) (y * 2 ^ dy)) (λ i hi. ap (cell l) (by-rows y i)) x (size-above (pow-pos dx) w x hx))
+        filter-cong samples (low-size w dx) two (line (y * (w * 2 ^ dy)) (2 ^ dx) l) (λ i. sample-at w l (i * 2 ^ dx) (y * 2 ^ dy)) (λ i hi. ap (cell l) (by-rows y i)) x (size-above (pow-pos dx) w x hx))
 
     pub columns-made : 2 ≤ low-size h dy → OntoGrid (2 ^ dx) (low-size w dx) (w * 2 ^ dy) (low-size h dy) (λ q. filter samples (low-size h dy) (line (q * 2 ^ dx) (w * 2 ^ dy) l)) l l′ → Gridded w h (2 ^ dx) (2 ^ dy) (columns-of w h (2 ^ dx) (2 ^ dy) l) l l′
     columns-made two o = regridded (made (crossed o)) (λ x y hx hy.
-      filter-cong samples (low-size h dy) two (line (x * 2 ^ dx) (w * 2 ^ dy) l) (λ i. sample-at w l (x * 2 ^ dx) (i * 2 ^ dy)) (λ i hi. ap (cell l) (by-columns x i)) y (size-above (pow-pos dy) h y hy))
+        filter-cong samples (low-size h dy) two (line (x * 2 ^ dx) (w * 2 ^ dy) l) (λ i. sample-at w l (x * 2 ^ dx) (i * 2 ^ dy)) (λ i hi. ap (cell l) (by-columns x i)) y (size-above (pow-pos dy) h y hy))
 
   -- ---- sizes grow by three at most
 
@@ -121,11 +126,11 @@ module _ {w h len : ℕ} (sheet : Sheet w h len) (dx dy : ℕ) where
   module _ {B : ℕ} {l l′ : List ℤ} (within : SamplesWithin w h B l) where
     pub rows-size : 2 ≤ low-size w dx → Gridded w h (2 ^ dx) (2 ^ dy) (rows-of w (2 ^ dx) (2 ^ dy) l) l l′ → SamplesWithin w h (3 * B) l′
     rows-size two pass = pass-size within pass (λ x y hx hy.
-      filter-size (low-size w dx) B two (λ i. sample-at w l (i * 2 ^ dx) (y * 2 ^ dy)) (λ i hi. within .most (i * 2 ^ dx) (y * 2 ^ dy) (below-size (pow-pos dx) w i hi) hy) x (size-above (pow-pos dx) w x hx))
+        thrice (low-size w dx) B two (λ i. sample-at w l (i * 2 ^ dx) (y * 2 ^ dy)) (λ i hi. within .most (i * 2 ^ dx) (y * 2 ^ dy) (below-size (pow-pos dx) w i hi) hy) x (size-above (pow-pos dx) w x hx))
 
     pub columns-size : 2 ≤ low-size h dy → Gridded w h (2 ^ dx) (2 ^ dy) (columns-of w h (2 ^ dx) (2 ^ dy) l) l l′ → SamplesWithin w h (3 * B) l′
     columns-size two pass = pass-size within pass (λ x y hx hy.
-      filter-size (low-size h dy) B two (λ i. sample-at w l (x * 2 ^ dx) (i * 2 ^ dy)) (λ i hi. within .most (x * 2 ^ dx) (i * 2 ^ dy) hx (below-size (pow-pos dy) h i hi)) y (size-above (pow-pos dy) h y hy))
+        thrice (low-size h dy) B two (λ i. sample-at w l (x * 2 ^ dx) (i * 2 ^ dy)) (λ i hi. within .most (x * 2 ^ dx) (i * 2 ^ dy) hx (below-size (pow-pos dy) h i hi)) y (size-above (pow-pos dy) h y hy))
 
 -- ---- the shifts of the code do not wrap
 

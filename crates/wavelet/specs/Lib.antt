@@ -1,6 +1,7 @@
 -- Annex E: the inverse 5-3 wavelet transform of one component, and the distance rule along it.
 pub mod Filter
 pub mod Transform
+pub mod Bands
 pub mod Places
 pub mod Sweeps
 pub mod Lines

@@ -7,24 +7,12 @@ use lib.IntN.{ℤ, natAbs}
 use lib.ListN.{length}
 use Rattle.whole.specs.Cells.{cell}
 use Rattle.wavelet.specs.Filter.{samples}
-use Rattle.wavelet.specs.Transform.{Kind, LL, HL, LH, HH, Band, low-size, inverse}
+use Rattle.wavelet.specs.Transform.{Kind, Band, inverse}
+use Rattle.wavelet.specs.Bands.{τx, τy, Decomposed}
 
 -- the sample in column x and row y of a component of w columns
 abbrev pub sample-at : ℕ → List ℤ → Band ℤ
 sample-at w l x y = cell l (y * w + x)
-
--- B.3: 1 where a filter type is high-pass, across and down
-abbrev pub τx : Kind → ℕ
-τx LL = 0
-τx HL = 1
-τx LH = 0
-τx HH = 1
-
-abbrev pub τy : Kind → ℕ
-τy LL = 0
-τy HL = 0
-τy LH = 1
-τy HH = 1
 
 -- the column, or row, of a coefficient: the i-th at depth d, low-pass (0) or high-pass (1)
 abbrev pub place : ℕ → ℕ → ℕ → ℕ
@@ -42,14 +30,12 @@ pub record Sheet (w h len : ℕ) : Type 0 where
   pub high : 0 < h
   pub low : h ≤ 16384
 
--- a component that the transform takes: the levels of the built range, and two samples or more to every filter
+-- a component that the transform takes, with levels of the built range
 pub record Component (w h nx ny len : ℕ) : Type 0 where
   pub sheet : Sheet w h len
   pub levels : nx ≤ 5
   pub fewer : ny ≤ 2
-  pub no-more : ny ≤ nx
-  pub two-across : (d : ℕ) → d < nx → 2 ≤ low-size w d
-  pub two-down : (d : ℕ) → d < ny → 2 ≤ low-size h d
+  pub parts : Decomposed w h nx ny
 
 -- every cell at exit is Annex E's sample of the bands that stood in the cells at entry
 pub record Transformed (w h nx ny : ℕ) (l l′ : List ℤ) : Type 0 where

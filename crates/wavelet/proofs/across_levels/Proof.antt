@@ -18,20 +18,20 @@ abbrev μ-loop : tie.MeasureT-loop
 μ-loop cells₀ w h nx ny d₀ cells d = d
 
 loop-holds : tie.Need-loop-holds Inv-loop μ-loop
-loop-holds c = descent-begins (omega (arith, c .pre .0 .no-more)) (standing _ _ _ _ _) (c .pre .1) (across-room (c .pre .0))
+loop-holds c = descent-begins (omega (arith, c .pre .0 .parts .no-more)) (standing _ _ _ _ _) (c .pre .1) (across-room (c .pre .0))
 
 filter-rows-requires : tie.Need-filter-rows-requires Inv-loop μ-loop
 filter-rows-requires c κs =
     let s = c .before .before .before in
     let i = c .before .before .loop .inv in
-    (across-pass (s .pre .0) (i .stands .same) (c .before .loop-test .taken) (omega (arith, i .most, s .pre .0 .no-more)), samples-le (descent-size i (omega arith)) (omega arith))
+    (across-pass (s .pre .0) (i .stands .same) (c .before .loop-test .taken) (omega (arith, i .most, s .pre .0 .parts .no-more)), samples-le (descent-size i (omega arith)) (omega arith))
 
 loop-again : tie.Need-loop-again Inv-loop μ-loop
 loop-again c =
     let s = c .before .before .before .before .before in
     let i = c .before .before .before .before .loop .inv in
     let t = c .before .before .before .loop-test .taken in
-    across-goes-on (s .pre .0 .sheet) (omega arith) i t (s .pre .0 .two-across _ (omega (arith, i .most, s .pre .0 .no-more))) (c .before .filter-rows .ensures)
+    across-goes-on (s .pre .0 .sheet) (omega arith) i t (s .pre .0 .parts .two-across _ (omega (arith, i .most, s .pre .0 .parts .no-more))) (c .before .filter-rows .ensures)
 
 same-length : tie.Need-same-length Inv-loop μ-loop
 same-length c = c .before .loop .inv .stands .same
