@@ -1,0 +1,3 @@
+-- Laws of Annex F, as far as it is built.
+pub mod Laws
+pub mod Pass

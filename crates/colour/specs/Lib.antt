@@ -1,0 +1,3 @@
+-- Annex F of ISO/IEC 21122-1, as far as it is built.
+pub mod Rct
+pub mod Pass

@@ -1,0 +1,78 @@
+// Annex F of ISO/IEC 21122-1, as far as it is built: the inverse reversible colour transform of F.3, on components 0 to 2, in place.
+ghost use mathlib.Core.Path.{_≡_};
+ghost use Prim.Native.Nat.{_^_, _≤_, _<_};
+ghost use lib.ListN.{length};
+ghost use Rattle.colour.specs.Rct.{inverseRct, numbersRct, Small};
+ghost use Rattle.colour.specs.Pass.{pixel, put, Stretches, Transformed};
+
+// A pixel's components 0, 1 and 2.
+pub struct Pixel {
+    pub c0: i64,
+    pub c1: i64,
+    pub c2: i64,
+}
+
+// The distance numbers of components 0, 1 and 2.
+pub struct Numbers {
+    pub c0: u64,
+    pub c1: u64,
+    pub c2: u64,
+}
+
+// Table F.2 at one pixel.
+fn inverse(i: Pixel) -> Pixel
+    requires { ⌜ Small (2 ^ 60) i ⌝ }
+    ensures { λ o. ⌜ o ≡ inverseRct i ⌝ }
+{
+    let green = i.c0 - ((i.c1 + i.c2) >> 2);
+    Pixel {
+        c0: green + i.c2,
+        c1: green,
+        c2: green + i.c1,
+    }
+}
+
+// Table F.2 at the pixel whose components are the cells p, q and r.
+fn inverse_at(work: &mut [i64], p: usize, q: usize, r: usize)
+    requires { ⌜ (p < length (now work)) × (q < length (now work)) × (r < length (now work)) ⌝ }
+    requires { ⌜ Small (2 ^ 60) (pixel (now work) p q r) ⌝ }
+    ensures { λ _. ⌜ now (work .exit) ≡ put (now (work .entry)) p q r (inverseRct (pixel (now (work .entry)) p q r)) ⌝ }
+{
+    let o = inverse(Pixel {
+        c0: work[p],
+        c1: work[q],
+        c2: work[r],
+    });
+    // A signed number is stored from a local of its own.
+    let red = o.c0;
+    let green = o.c1;
+    let blue = o.c2;
+    work[p] = red;
+    work[q] = green;
+    work[r] = blue;
+}
+
+// Table F.2 at n pixels: component 0 stands in the n cells from first on, component 1 from second on, component 2 from third on.
+pub fn inverse_rct(work: &mut [i64], first: usize, second: usize, third: usize, n: usize)
+    requires { ⌜ Stretches first second third n (now work) ⌝ }
+    ensures { λ _. ⌜ Transformed first second third n (now (work .entry)) (now (work .exit)) ⌝ }
+{
+    let mut x: usize = 0;
+    while x < n {
+        inverse_at(work, first + x, second + x, third + x);
+        x += 1;
+    }
+}
+
+// Document 01's distance rule 3: the numbers of red, green and blue.
+pub fn numbers_rct(e: Numbers) -> Numbers
+    requires { ⌜ (e .c0 ≤ 2 ^ 60) × (e .c1 ≤ 2 ^ 60) × (e .c2 ≤ 2 ^ 60) ⌝ }
+    ensures { λ r. ⌜ r ≡ numbersRct e ⌝ }
+{
+    let green = e.c0 + (e.c1 + e.c2 + 3) / 4;
+    Numbers {
+        c0: green + e.c2,
+        c1: green,
+        c2: green + e.c1,
+    }
+}

@@ -1,0 +1,2 @@
+-- Laws of Annex G, as far as it is built.
+pub mod Laws

@@ -1,0 +1,118 @@
+-- The laws of the quantisers over whole numbers, for either quantiser, every M and every T. Assumes nothing.
+use mathlib.Core.Path.{_≡_, refl, ap, _∙_}
+use mathlib.Core.Bool.{Bool}
+use Prim.Native.Nat.{ℕ, suc, _+_, _-_, _^_, _≤_, _<_, max}
+use native.Mathlib.Nat.{lt-of-lt-of-le, zero-mul, mul-le-mul-right}
+use native.Mathlib.Omega.{arith}
+use lib.IntN.{ℤ, pos, negsuc, negℤ, natAbs}
+use lib.Pow.{pow-mono, shl-lt, ones-lt}
+use Rattle.whole.specs.Numbers.{Within, bySize, signed}
+use Rattle.whole.proofs.Machine.{size-neg, size-mul}
+use Rattle.whole.proofs.Within.{within-le, within-mul, within-size, signed-size}
+use Rattle.quantiser.specs.Inverse.{inverse, coefficientOf, scaled, Carried}
+use Rattle.quantiser.specs.Forward.{forward, indexOf}
+use Rattle.quantiser.specs.Distance.{bandNumber}
+use Rattle.quantiser.proofs.Near.{inverse-zero, inverse-small, inverse-near, inverse-exact, forward-fits, forward-exact}
+
+-- ---- a rule on sizes, at a whole number
+
+size-by : (f : ℕ → ℕ) (z : ℤ) → natAbs (bySize f z) ≡ f (natAbs z)
+size-by f (pos n) = refl
+size-by f (negsuc n) = size-neg (pos (f (suc n)))
+
+same-by : (f : ℕ → ℕ) (z : ℤ) → f (natAbs z) ≡ natAbs z → bySize f z ≡ z
+same-by f (pos n) e = ap pos e
+same-by f (negsuc n) e = ap (λ (x : ℕ). negℤ (pos x)) e
+
+-- ---- there and back
+
+module _ (q : Bool) (M T : ℕ) where
+  -- an index of 0 is the coefficient 0
+  pub coefficient-zero : coefficientOf q M T (pos 0) ≡ pos 0
+  unfolding coefficientOf
+  coefficient-zero = ap pos (inverse-zero q M T)
+
+  -- σ × size, whatever the sign bit of an index of 0
+  pub coefficient-signed : (s : Bool) (v : ℕ) → coefficientOf q M T (signed s v) ≡ signed s (inverse q M T v)
+  unfolding coefficientOf
+  coefficient-signed s v = signed-size (inverse q M T) (inverse-zero q M T) s v
+
+  pub coefficient-small : (i : ℤ) → natAbs i < 2 ^ (M - T) → natAbs (coefficientOf q M T i) < 2 ^ M
+  unfolding coefficientOf
+  coefficient-small i h = rw (size-by (inverse q M T) i) (inverse-small q M T (natAbs i) h)
+
+  module _ (c : ℤ) (h : natAbs c < 2 ^ max M T) where
+    -- a data subpacket can carry the index
+    pub index-fits : natAbs (indexOf q M T c) < 2 ^ (M - T)
+    unfolding indexOf
+    index-fits = rw (size-by (forward q M T) c) (forward-fits q M T (natAbs c) h)
+
+    pub coefficient-within : Within (2 ^ T - 1) c (coefficientOf q M T (indexOf q M T c))
+    unfolding coefficientOf indexOf
+    coefficient-within =
+        let n = inverse-near q M T (natAbs c) h in
+        within-size (forward q M T) (inverse q M T) (2 ^ T - 1) (inverse-zero q M T) c (n .over, n .under)
+
+    -- the same of a sign bit and a magnitude in a stream that make the index of c
+    pub stored-within : (s : Bool) (v : ℕ) → signed s v ≡ indexOf q M T c → Within (2 ^ T - 1) c (coefficientOf q M T (signed s v))
+    stored-within s v e = rw e coefficient-within
+
+-- ---- with T = 0 each way is exact
+
+module _ (q : Bool) (M : ℕ) where
+  pub index-exact : (c : ℤ) → natAbs c < 2 ^ M → indexOf q M 0 c ≡ c
+  unfolding indexOf
+  index-exact c h = same-by (forward q M 0) c (forward-exact q M (natAbs c) h)
+
+  pub coefficient-exact : (i : ℤ) → natAbs i < 2 ^ M → coefficientOf q M 0 i ≡ i
+  unfolding coefficientOf
+  coefficient-exact i h = same-by (inverse q M 0) i (inverse-exact q M (natAbs i) h)
+
+  pub both-exact : (c : ℤ) → natAbs c < 2 ^ M → coefficientOf q M 0 (indexOf q M 0 c) ≡ c
+  both-exact c h = ap (coefficientOf q M 0) (index-exact c h) ∙ coefficient-exact c h
+
+-- ---- times 2 ^ Fq
+
+pub scaled-zero : (Fq : ℕ) → scaled Fq (pos 0) ≡ pos 0
+unfolding scaled
+scaled-zero Fq = ap pos (zero-mul (2 ^ Fq))
+
+pub scaled-small : (Fq k : ℕ) (c : ℤ) → natAbs c < 2 ^ k → natAbs (scaled Fq c) < 2 ^ (k + Fq)
+unfolding scaled
+scaled-small Fq k c h = rw (size-mul c (2 ^ Fq)) (shl-lt k Fq h)
+
+-- ---- sizes for words: of an index that a data subpacket can carry
+
+pub carried-index : {M T v : ℕ} → Carried M T v → v < 2 ^ 31
+carried-index {M} {T} k = lt-of-lt-of-le (k .below) (pow-mono {i = M - T} {j = 31} (omega (arith, k .count)))
+
+module _ (q : Bool) {M T : ℕ} (i : ℤ) (k : Carried M T (natAbs i)) where
+  pub carried-small : natAbs (coefficientOf q M T i) < 2 ^ 31
+  carried-small = lt-of-lt-of-le (coefficient-small q M T i (k .below)) (pow-mono {j = 31} (k .count))
+
+  pub carried-scaled : {Fq F : ℕ} → Fq ≤ F → natAbs (scaled Fq (coefficientOf q M T i)) < 2 ^ (31 + F)
+  carried-scaled {Fq} {F} h = lt-of-lt-of-le (scaled-small Fq 31 (coefficientOf q M T i) carried-small) (pow-mono (omega arith))
+
+-- ---- a band's number
+
+pub band-zero : (Fq : ℕ) → bandNumber 0 Fq ≡ 0
+unfolding bandNumber
+band-zero Fq = zero-mul (2 ^ Fq)
+
+pub band-mono : {T U : ℕ} (Fq : ℕ) → T ≤ U → bandNumber T Fq ≤ bandNumber U Fq
+unfolding bandNumber
+band-mono {T} {U} Fq h = mul-le-mul-right (2 ^ Fq) (omega (arith, pow-mono h))
+
+pub band-small : (T Fq : ℕ) → bandNumber T Fq < 2 ^ (T + Fq)
+unfolding bandNumber
+band-small T Fq = shl-lt T Fq (ones-lt T)
+
+-- rule 1 for the coefficient's own T
+pub scaled-within : (T Fq : ℕ) {x y : ℤ} → Within (2 ^ T - 1) x y → Within (bandNumber T Fq) (scaled Fq x) (scaled Fq y)
+unfolding scaled bandNumber
+scaled-within T Fq h = within-mul (2 ^ Fq) h
+
+-- rule 1 for the largest T of the band, U: i is the index that a stream holds for c
+pub band-within : (q : Bool) (M T U Fq : ℕ) (c i : ℤ) → T ≤ U → natAbs c < 2 ^ max M T → i ≡ indexOf q M T c
+    → Within (bandNumber U Fq) (scaled Fq c) (scaled Fq (coefficientOf q M T i))
+band-within q M T U Fq c i u h e = within-le (scaled-within T Fq (rw e (coefficient-within q M T c h))) (band-mono Fq u)
