@@ -1,2 +1,5 @@
 -- Laws of the filter and the transform.
 pub mod Borders
+pub mod Sizes
+pub mod Filling
+pub mod Lifting

@@ -2,6 +2,6 @@
 pub mod Filter
 pub mod Transform
 pub mod Places
-pub mod Sweeps
 pub mod Lines
+pub mod Sweeps
 pub mod Distance

@@ -1,0 +1,59 @@
+// Lines of samples filtered in place, along the rows of a component and down its columns.
+
+ghost use mathlib.Core.Path.{_≡_};
+ghost use Prim.Native.Nat.{ℕ, _+_, _*_, _-_, _^_, _<_, _≤_};
+ghost use lib.ListN.{length, set};
+ghost use Rattle.whole.specs.Cells.{cell};
+ghost use Rattle.whole.specs.Numbers.{gap};
+ghost use Rattle.wavelet.specs.Filter.{even-step, odd-step, samples, filter};
+ghost use Rattle.wavelet.specs.Lines.{line, Inside, LineWithin, OntoLine, Grid, GridWithin, OntoGrid};
+ghost use Rattle.wavelet.specs.Sweeps.{right, step, swept, Small, Liftable, lifted};
+
+// Table E.6, an even place. The shift rounds down, where a division would round toward zero.
+fn even_step(x: i64, l: i64, r: i64) -> i64
+    requires { ⌜ Small x l r ⌝ }
+    ensures { λ y. ⌜ y ≡ even-step x l r ⌝ }
+{
+    x - ((l + r + 2) >> 2)
+}
+
+// Table E.6, an odd place.
+fn odd_step(x: i64, l: i64, r: i64) -> i64
+    requires { ⌜ Small x l r ⌝ }
+    ensures { λ y. ⌜ y ≡ odd-step x l r ⌝ }
+{
+    x + ((l + r) >> 1)
+}
+
+fn step_of(b: usize, x: i64, l: i64, r: i64) -> i64
+    requires { ⌜ Small x l r ⌝ }
+    ensures { λ y. ⌜ y ≡ step samples b x l r ⌝ }
+{
+    if b == 0 {
+        even_step(x, l, r)
+    } else {
+        odd_step(x, l, r)
+    }
+}
+
+fn lift_one(cells: &mut [i64], b: usize, c: usize, l: usize, r: usize)
+    requires { ⌜ (c < length (now cells)) × (l < length (now cells)) × (r < length (now cells)) ⌝ }
+    requires { ⌜ Small (cell (now cells) c) (cell (now cells) l) (cell (now cells) r) ⌝ }
+    ensures { λ _. ⌜ now (cells .exit) ≡ set (now (cells .entry)) c (step samples b (cell (now (cells .entry)) c) (cell (now (cells .entry)) l) (cell (now (cells .entry)) r)) ⌝ }
+{
+    cells[c] = step_of(b, cells[c], cells[l], cells[r]);
+}
+
+// The lifting loop of both directions: n cells from c on, s apart, each with the cells beside it from l and from r on. `b` does not change in
+// the loop, so that the choice of the step leaves it.
+fn lift(cells: &mut [i64], b: usize, c: usize, l: usize, r: usize, s: usize, n: usize)
+    requires { ⌜ Liftable s n c l r (now cells) ⌝ }
+    ensures { λ _. ⌜ OntoLine c s n (lifted b s c l r (now (cells .entry))) (now (cells .entry)) (now (cells .exit)) ⌝ }
+{
+    let mut j = 0;
+    while j < n {
+        let t = j * s;
+        lift_one(cells, b, c + t, l + t, r + t);
+        j += 1;
+    }
+}
