@@ -63,6 +63,11 @@ line-apart base stride h i k e = eq-of-mul-eq-mul-right stride h i k (omega arit
 pub line-ends : (base stride n f : ℕ) (g : ℕ → ℤ) {l l′ : List ℤ} → LineFilled base stride n g f l l′ → n ≤ f → OntoLine base stride n g l l′
 line-ends base stride n f g p h = record { same = p .same; on = λ k b. p .done k b (omega arith); off = p .off }
 
+-- one filling of a line after another
+pub onto-onto : {base stride n : ℕ} {g h G : ℕ → ℤ} {x y z : List ℤ} → OntoLine base stride n g x y → OntoLine base stride n h y z
+    → ((k : ℕ) → k < n → h k ≡ G k) → OntoLine base stride n G x z
+onto-onto p q e = record { same = q .same ∙ p .same; on = λ k b. q .on k b ∙ e k b; off = λ j a. q .off j a ∙ p .off j a }
+
 -- a store is a run of one cell
 pub store-onto : (l : List ℤ) (c : ℕ) (z : ℤ) → c < length l → OntoLine c 0 1 (λ _. z) l (set l c z)
 store-onto l c z h = record {

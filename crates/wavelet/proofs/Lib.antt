@@ -3,3 +3,6 @@ pub mod Borders
 pub mod Sizes
 pub mod Filling
 pub mod Lifting
+pub mod Sweeping
+pub mod Reading
+pub mod Grids

@@ -7,7 +7,7 @@ use mir.Syntax.{w64}
 use mir.Val.{SFits}
 use Rattle.whole.proofs.Linear.{up, dn, addZ, subZ, shrB, absZ, toAbs}
 use Rattle.whole.proofs.Machine.{fitsZ, shr-fits}
-use Rattle.wavelet.specs.Filter.{even-step, odd-step}
+use Rattle.wavelet.specs.Filter.{even-step, odd-step, samples}
 use Rattle.wavelet.specs.Sweeps.{Small}
 
 -- 4 (x − y) ≤ l + r + 2 < 4 (x − y) + 4, for y = x − floor((l + r + 2) / 4)
@@ -24,7 +24,8 @@ odd-linear : (x l r : ℤ)
 odd-linear x l r = omega (arith, addZ x (shrZ (l +ℤ r) 2), shrB 2 (omega arith) (l +ℤ r), addZ l r)
 
 -- an even sample is at most twice as large as what it is made of
-pub even-size : (x l r : ℤ) {B : ℕ} → 2 ≤ B → natAbs x ≤ B → natAbs l ≤ B → natAbs r ≤ B → natAbs (even-step x l r) ≤ 2 * B
+pub even-size : (x l r : ℤ) {B : ℕ} → 2 ≤ B → natAbs x ≤ B → natAbs l ≤ B → natAbs r ≤ B → natAbs (samples .even x l r) ≤ 2 * B
+unfolding samples
 even-size x l r two hx hl hr = toAbs (even-step x l r) _ (omega (arith, even-linear x l r, absZ x, absZ l, absZ r))
 
 -- what an i64 holds on the way

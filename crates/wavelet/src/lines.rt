@@ -57,3 +57,50 @@ fn lift(cells: &mut [i64], b: usize, c: usize, l: usize, r: usize, s: usize, n: 
         j += 1;
     }
 }
+
+// The samples of a line whose place is b modulo 2. Most have a neighbour on each side, two places apart from the next one's. At the line's ends, where
+// there is such a sample at all, its one neighbour stands for both.
+fn sweep(cells: &mut [i64], b: usize, base: usize, stride: usize, n: usize)
+    requires { ⌜ Inside base stride n (length (now cells)) × (2 ≤ n) × (b < 2) ⌝ }
+    requires { ⌜ LineWithin base stride n (2 ^ 61) (now cells) ⌝ }
+    ensures { λ _. ⌜ OntoLine base stride n (swept samples b n (line base stride (now (cells .entry)))) (now (cells .entry)) (now (cells .exit)) ⌝ }
+{
+    let s = 2 * stride;
+    let second = base + stride;
+    let inner = base + (1 - b) * stride;
+    let last = base + (n - 2) * stride;
+    lift(cells, b, base, second, second, s, 1 - b);
+    lift(
+        cells,
+        b,
+        inner + stride,
+        inner,
+        inner + s,
+        s,
+        (n - 2 + b) / 2,
+    );
+    lift(cells, b, last + stride, last, last, s, (n - b) % 2);
+}
+
+// E.7 for one line.
+fn filter_line(cells: &mut [i64], base: usize, stride: usize, n: usize)
+    requires { ⌜ Inside base stride n (length (now cells)) × (2 ≤ n) ⌝ }
+    requires { ⌜ LineWithin base stride n (2 ^ 60) (now cells) ⌝ }
+    ensures { λ _. ⌜ OntoLine base stride n (filter samples n (line base stride (now (cells .entry)))) (now (cells .entry)) (now (cells .exit)) ⌝ }
+{
+    sweep(cells, 0, base, stride, n);
+    sweep(cells, 1, base, stride, n);
+}
+
+// E.7 for m lines of n samples, `stride` apart: the q-th starts at q * step. One line after another, since each lies together in memory.
+pub fn rows(cells: &mut [i64], step: usize, m: usize, stride: usize, n: usize)
+    requires { ⌜ Grid step m stride n (length (now cells)) ⌝ }
+    requires { ⌜ GridWithin step m stride n (2 ^ 60) (now cells) ⌝ }
+    ensures { λ _. ⌜ OntoGrid step m stride n (λ q. filter samples n (line (q * step) stride (now (cells .entry)))) (now (cells .entry)) (now (cells .exit)) ⌝ }
+{
+    let mut q = 0;
+    while q < m {
+        filter_line(cells, q * step, stride, n);
+        q += 1;
+    }
+}
