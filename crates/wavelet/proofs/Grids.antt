@@ -17,7 +17,7 @@ abbrev pub Filtering : ℕ → ℕ → ℕ → ℕ → (ℕ × ℕ → ℕ) → 
 Filtering step m stride n turn x f =
     Filled {I = ℕ × ℕ} (λ i. i .0 * step + i .1 * stride) (λ i. (i .0 < m) × (i .1 < n)) turn (λ i. filter samples n (line (i .0 * step) stride x) (i .1)) f x
 
-pair : {q r k j : ℕ} → q ≡ r → k ≡ j → _≡_ {A = ℕ × ℕ} (q, k) (r, j)
+pub pair : {q r k j : ℕ} → q ≡ r → k ≡ j → _≡_ {A = ℕ × ℕ} (q, k) (r, j)
 pair e d = rw (e, d)
 
 pub grid-apart : {step m stride n len : ℕ} → Grid step m stride n len → (i k : ℕ × ℕ) → (i .0 < m) × (i .1 < n) → (k .0 < m) × (k .1 < n)

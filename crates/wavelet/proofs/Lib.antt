@@ -6,3 +6,4 @@ pub mod Lifting
 pub mod Sweeping
 pub mod Reading
 pub mod Grids
+pub mod Together

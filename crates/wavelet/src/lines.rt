@@ -104,3 +104,56 @@ pub fn rows(cells: &mut [i64], step: usize, m: usize, stride: usize, n: usize)
         q += 1;
     }
 }
+
+fn left_of(k: usize) -> usize
+    ensures { λ r. ⌜ r ≡ gap k 1 ⌝ }
+{
+    if k == 0 { 1 } else { k - 1 }
+}
+
+fn right_of(n: usize, k: usize) -> usize
+    requires { ⌜ (2 ≤ n) × (k < n) ⌝ }
+    ensures { λ r. ⌜ r ≡ right n k ⌝ }
+{
+    if k + 1 < n { k + 1 } else { k - 1 }
+}
+
+// Sample k of all m lines at once.
+fn across(cells: &mut [i64], b: usize, step: usize, m: usize, stride: usize, n: usize, k: usize)
+    requires { ⌜ (0 < m) × (2 ≤ n) × (k < n) ⌝ }
+    requires { ⌜ Liftable step m (k * stride) (gap k 1 * stride) (right n k * stride) (now cells) ⌝ }
+    ensures { λ _. ⌜ OntoLine (k * stride) step m (lifted b step (k * stride) (gap k 1 * stride) (right n k * stride) (now (cells .entry))) (now (cells .entry)) (now (cells .exit)) ⌝ }
+{
+    lift(
+        cells,
+        b,
+        k * stride,
+        left_of(k) * stride,
+        right_of(n, k) * stride,
+        step,
+        m,
+    );
+}
+
+// What `rows` does, for lines that lie across memory, as the columns of a component do: all lines go along together, so that each turn of the loop
+// reads and writes whole rows of memory. An odd sample follows two places behind the even ones, while the rows that it needs are still in the cache.
+pub fn columns(cells: &mut [i64], step: usize, m: usize, stride: usize, n: usize)
+    requires { ⌜ Grid step m stride n (length (now cells)) ⌝ }
+    requires { ⌜ GridWithin step m stride n (2 ^ 60) (now cells) ⌝ }
+    ensures { λ _. ⌜ OntoGrid step m stride n (λ q. filter samples n (line (q * step) stride (now (cells .entry)))) (now (cells .entry)) (now (cells .exit)) ⌝ }
+{
+    if m == 0 {
+        return;
+    }
+    let last = n - 1;
+    across(cells, 0, step, m, stride, n, 0);
+    let mut k = 1;
+    while k < last {
+        across(cells, 0, step, m, stride, n, k + 1);
+        across(cells, 1, step, m, stride, n, k);
+        k += 2;
+    }
+    if k == last {
+        across(cells, 1, step, m, stride, n, k);
+    }
+}
