@@ -1,0 +1,136 @@
+-- A level of Table E.1 in place: where the band LL stands on the grid of its depth and every other coefficient is still in its place, filtering
+-- the lines of the finer grid leaves the next LL there. Assumes nothing.
+use mathlib.Core.Path.{_≡_, refl, sym, ap, ap₂, _∙_}
+use mathlib.Core.List.{List}
+use Prim.Native.Nat.{ℕ, zero, suc, _+_, _*_, _-_, _/_, _%_, _^_, _≤_, _<_}
+use native.Mathlib.Nat.{mul-assoc, mul-comm, add-mul, one-mul, zero-mul, add-zero, pow-suc, eq-of-mul-eq-mul-right}
+use native.Mathlib.Decide.{ℕ-discrete}
+use native.Mathlib.Omega.{arith}
+use borrow.Author.Tests.{eq-eqb, ne-eqb}
+use lib.IntN.{ℤ}
+use lib.ListN.{length}
+use lib.Pow.{pow-pos}
+use Rattle.whole.specs.Numbers.{ceilDiv}
+use Rattle.wavelet.specs.Filter.{filter, samples}
+use Rattle.wavelet.specs.Transform.{Kind, LL, HL, LH, HH, Band, woven, hor-transform, ver-transform, low-size}
+use Rattle.wavelet.specs.Bands.{τx, τy}
+use Rattle.wavelet.specs.Places.{sample-at, bands, place}
+use Rattle.wavelet.specs.Grids.{Gridded, rows-of, columns-of}
+use Rattle.wavelet.proofs.Halves.{below-size, size-above}
+use Rattle.wavelet.proofs.Related.{filter-cong}
+
+-- ---- places of the grid
+
+-- the coarser grid's places are the finer one's even places, and half a step on are the odd ones
+finer : (s x : ℕ) → x * (s * 2) ≡ x * 2 * s
+finer s x = sym (mul-assoc x 2 s ∙ ap (λ (n : ℕ). x * n) (mul-comm 2 s))
+
+finer-odd : (s x : ℕ) → x * (s * 2) + s ≡ (x * 2 + 1) * s
+finer-odd s x = ap₂ (λ (n m : ℕ). n + m) (finer s x) (sym (one-mul s)) ∙ sym (add-mul (x * 2) 1 s)
+
+-- so between two places of the coarser grid there is none of it
+between : (s j x : ℕ) → 0 < s → j * (s * 2) + s ≡ x * (s * 2) → ⊥
+between s j x up e =
+    let odd : j * 2 + 1 ≡ x * 2 = eq-of-mul-eq-mul-right s up (j * 2 + 1) (x * 2) (sym (finer-odd s j) ∙ e ∙ finer s x) in
+    omega arith
+
+-- ---- a line of the finer grid is woven of the coarser grid's samples and those between them
+
+module _ (s w : ℕ) (f A B : ℕ → ℤ) (even : (j : ℕ) → j * (s * 2) < w → f (j * (s * 2)) ≡ A j) (odd : (j : ℕ) → j * (s * 2) + s < w → f (j * (s * 2) + s) ≡ B j) where
+  woven-of : (i : ℕ) → i * s < w → f (i * s) ≡ woven A B i
+  unfolding woven
+  woven-of i h = pick (ℕ-discrete (i % 2) 0)
+    where
+      pick : Dec (i % 2 ≡ 0) → f (i * s) ≡ woven A B i
+      pick (yes e) =
+          let d : i ≡ i / 2 * 2 = omega arith in
+          let p : i * s ≡ i / 2 * (s * 2) = ap (λ (n : ℕ). n * s) d ∙ sym (finer s (i / 2)) in
+          rw (eq-eqb (i % 2) 0 e) (ap f p ∙ even (i / 2) (omega arith))
+      pick (no e) =
+          let d : i ≡ i / 2 * 2 + 1 = omega arith in
+          let p : i * s ≡ i / 2 * (s * 2) + s = ap (λ (n : ℕ). n * s) d ∙ sym (finer-odd s (i / 2)) in
+          rw (ne-eqb (i % 2) 0 e) (ap f p ∙ odd (i / 2) (omega arith))
+
+  -- and so is its filter
+  filter-woven : 0 < s → 2 ≤ ceilDiv w s → (i : ℕ) → i * s < w → filter samples (ceilDiv w s) (λ k. f (k * s)) i ≡ filter samples (ceilDiv w s) (woven A B) i
+  filter-woven up two i h = filter-cong samples (ceilDiv w s) two (λ k. f (k * s)) (woven A B) (λ k k<. woven-of k (below-size up w k k<)) i (size-above up w i h)
+
+-- ---- where a band's coefficients stand
+
+module _ (w : ℕ) (l : List ℤ) where
+  stands : (k : Kind) (dx dy x y : ℕ) {c r : ℕ} → c ≡ place (τx k) dx x → r ≡ place (τy k) dy y → sample-at w l c r ≡ bands (sample-at w l) k dx dy x y
+  stands k dx dy x y p q = ap₂ (sample-at w l) p q
+
+pub low-place : (d i : ℕ) → i * 2 ^ d ≡ place 0 d i
+low-place d i = sym (ap (λ (n : ℕ). i * 2 ^ d + n) (zero-mul (2 ^ (d - 1))) ∙ add-zero (i * 2 ^ d))
+
+high-place : (d i : ℕ) → i * (2 ^ d * 2) + 2 ^ d ≡ place 1 (suc d) i
+high-place d i =
+    let e : suc d - 1 ≡ d = omega arith in
+    rw (pow-suc, e, one-mul)
+
+-- a low-pass place at depth d + 1
+even-place : (d i : ℕ) → i * (2 ^ d * 2) ≡ place 0 (suc d) i
+even-place d i = rw (← pow-suc 2 d) (low-place (suc d) i)
+
+-- ---- a level of the rows alone: on every 2 ^ n-th row, from depth d + 1 to d
+
+module _ (w h d n : ℕ) {low : Band ℤ} {l₀ l l′ : List ℤ} (two : 2 ≤ low-size w d) (before : Gridded w h (2 ^ d * 2) (2 ^ n) low l₀ l) (rows : Gridded w h (2 ^ d) (2 ^ n) (rows-of w (2 ^ d) (2 ^ n) l) l l′) where
+  pub across-level : Gridded w h (2 ^ d) (2 ^ n) (hor-transform samples (low-size w d) low (bands (sample-at w l₀) HL (suc d) n)) l₀ l′
+  unfolding hor-transform
+  across-level = record {
+    same = rows .same ∙ before .same;
+    on = λ x y hx hy. rows .on x y hx hy
+        ∙ filter-woven (2 ^ d) w (λ c. sample-at w l c (y * 2 ^ n)) (λ i. low i y) (λ i. bands (sample-at w l₀) HL (suc d) n i y)
+        (λ j hj. before .on j y hj hy)
+        (λ j hj. before .off (j * (2 ^ d * 2) + 2 ^ d) (y * 2 ^ n) hj hy (λ x′ y′ ex ey. between (2 ^ d) j x′ (pow-pos d) ex) ∙ stands w l₀ HL (suc d) n j y (high-place d j) (low-place n y))
+        (pow-pos d) two x hx;
+    off = λ c r hc hr never. rows .off c r hc hr never ∙ before .off c r hc hr (λ x y ex ey. never (x * 2) y (ex ∙ finer (2 ^ d) x) ey);
+  }
+
+-- ---- a level of both directions, from depth d + 1 to d
+
+module _ (w h d : ℕ) {low : Band ℤ} {l₀ l l₁ l₂ : List ℤ} (two : 2 ≤ low-size w d) (two-down : 2 ≤ low-size h d)
+    (before : Gridded w h (2 ^ d * 2) (2 ^ d * 2) low l₀ l)
+    (rows : Gridded w h (2 ^ d) (2 ^ d) (rows-of w (2 ^ d) (2 ^ d) l) l l₁)
+    (columns : Gridded w h (2 ^ d) (2 ^ d) (columns-of w h (2 ^ d) (2 ^ d) l₁) l₁ l₂) where
+  -- a row r of the grid after the pass along the rows
+  row-on : (x y : ℕ) {r : ℕ} → r ≡ y * 2 ^ d → x * 2 ^ d < w → r < h → sample-at w l₁ (x * 2 ^ d) r ≡ filter samples (low-size w d) (λ i. sample-at w l (i * 2 ^ d) r) x
+  row-on x y e hx hr = rw e (rows .on x y hx (rw e at hr))
+
+  abbrev over : Band ℤ
+  over = hor-transform samples (low-size w d) low (bands (sample-at w l₀) HL (suc d) (suc d))
+
+  abbrev under : Band ℤ
+  under = hor-transform samples (low-size w d) (bands (sample-at w l₀) LH (suc d) (suc d)) (bands (sample-at w l₀) HH (suc d) (suc d))
+
+  even-row : (x j : ℕ) → x * 2 ^ d < w → j * (2 ^ d * 2) < h → sample-at w l₁ (x * 2 ^ d) (j * (2 ^ d * 2)) ≡ over x j
+  unfolding hor-transform
+  even-row x j hx hj =
+      row-on x (j * 2) (finer (2 ^ d) j) hx hj
+      ∙ filter-woven (2 ^ d) w (λ c. sample-at w l c (j * (2 ^ d * 2))) (λ i. low i j) (λ i. bands (sample-at w l₀) HL (suc d) (suc d) i j)
+      (λ i hi. before .on i j hi hj)
+      (λ i hi. before .off (i * (2 ^ d * 2) + 2 ^ d) (j * (2 ^ d * 2)) hi hj (λ x′ y′ ex ey. between (2 ^ d) i x′ (pow-pos d) ex) ∙ stands w l₀ HL (suc d) (suc d) i j (high-place d i) (even-place d j))
+      (pow-pos d) two x hx
+
+  odd-row : (x j : ℕ) → x * 2 ^ d < w → j * (2 ^ d * 2) + 2 ^ d < h → sample-at w l₁ (x * 2 ^ d) (j * (2 ^ d * 2) + 2 ^ d) ≡ under x j
+  unfolding hor-transform
+  odd-row x j hx hj =
+      row-on x (j * 2 + 1) (finer-odd (2 ^ d) j) hx hj
+      ∙ filter-woven (2 ^ d) w (λ c. sample-at w l c (j * (2 ^ d * 2) + 2 ^ d)) (λ i. bands (sample-at w l₀) LH (suc d) (suc d) i j) (λ i. bands (sample-at w l₀) HH (suc d) (suc d) i j)
+      (λ i hi. still (i * (2 ^ d * 2)) hi ∙ stands w l₀ LH (suc d) (suc d) i j (even-place d i) (high-place d j))
+      (λ i hi. still (i * (2 ^ d * 2) + 2 ^ d) hi ∙ stands w l₀ HH (suc d) (suc d) i j (high-place d i) (high-place d j))
+      (pow-pos d) two x hx
+    where
+      still : (c : ℕ) → c < w → sample-at w l c (j * (2 ^ d * 2) + 2 ^ d) ≡ sample-at w l₀ c (j * (2 ^ d * 2) + 2 ^ d)
+      still c hc = before .off c (j * (2 ^ d * 2) + 2 ^ d) hc hj (λ x′ y′ ex ey. between (2 ^ d) j y′ (pow-pos d) ey)
+
+  pub both-level : Gridded w h (2 ^ d) (2 ^ d) (ver-transform samples (low-size h d) over under) l₀ l₂
+  unfolding ver-transform
+  both-level = record {
+    same = columns .same ∙ rows .same ∙ before .same;
+    on = λ x y hx hy. columns .on x y hx hy
+        ∙ filter-woven (2 ^ d) h (λ r. sample-at w l₁ (x * 2 ^ d) r) (over x) (under x) (λ j hj. even-row x j hx hj) (λ j hj. odd-row x j hx hj) (pow-pos d) two-down y hy;
+    off = λ c r hc hr never. columns .off c r hc hr never ∙ rows .off c r hc hr never
+        ∙ before .off c r hc hr (λ x y ex ey. never (x * 2) (y * 2) (ex ∙ finer (2 ^ d) x) (ey ∙ finer (2 ^ d) y));
+  }

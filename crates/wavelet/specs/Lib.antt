@@ -1,0 +1,9 @@
+-- Annex E: the inverse 5-3 wavelet transform of one component, and the distance rule along it.
+pub mod Filter
+pub mod Transform
+pub mod Bands
+pub mod Places
+pub mod Distance
+pub mod Lines
+pub mod Sweeps
+pub mod Grids
