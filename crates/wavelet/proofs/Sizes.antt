@@ -1,5 +1,5 @@
 -- The two steps of samples as linear facts, how large their values are, and what fits an i64 on the way. Assumes nothing.
-use Prim.Native.Nat.{ℕ, _+_, _*_, _^_, _≤_, _<_}
+use Prim.Native.Nat.{ℕ, _+_, _*_, _≤_, _<_}
 use native.Mathlib.Omega.{arith}
 use lib.IntN.{ℤ, pos, natAbs, _+ℤ_}
 use lib.Signed.{shrZ}
@@ -23,10 +23,14 @@ odd-linear : (x l r : ℤ)
     × (2 * dn (odd-step x l r) + 2 * up x + up l + up r < 2 * up (odd-step x l r) + 2 * dn x + dn l + dn r + 2)
 odd-linear x l r = omega (arith, addZ x (shrZ (l +ℤ r) 2), shrB 2 (omega arith) (l +ℤ r), addZ l r)
 
--- an even sample is at most twice as large as what it is made of
+-- an even sample is at most twice as large as what it is made of, and an odd one as large as itself and a neighbour together
 pub even-size : (x l r : ℤ) {B : ℕ} → 2 ≤ B → natAbs x ≤ B → natAbs l ≤ B → natAbs r ≤ B → natAbs (samples .even x l r) ≤ 2 * B
 unfolding samples
 even-size x l r two hx hl hr = toAbs (even-step x l r) _ (omega (arith, even-linear x l r, absZ x, absZ l, absZ r))
+
+pub odd-size : (x l r : ℤ) {A B : ℕ} → natAbs x ≤ A → natAbs l ≤ B → natAbs r ≤ B → natAbs (samples .odd x l r) ≤ A + B
+unfolding samples
+odd-size x l r hx hl hr = toAbs (odd-step x l r) _ (omega (arith, odd-linear x l r, absZ x, absZ l, absZ r))
 
 -- what an i64 holds on the way
 module _ {x l r : ℤ} (h : Small x l r) where

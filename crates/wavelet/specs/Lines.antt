@@ -10,15 +10,6 @@ use Rattle.whole.specs.Cells.{cell}
 abbrev pub line : ℕ → ℕ → List ℤ → ℕ → ℤ
 line base stride l k = cell l (base + k * stride)
 
--- n cells of that line, all in a slice of that length
-pub record Inside (base stride n len : ℕ) : Type 0 where
-  pub stride-up : 0 < stride
-  pub inside : (k : ℕ) → k < n → base + k * stride < len
-
--- each of these cells is at most B in size
-pub record LineWithin (base stride n B : ℕ) (l : List ℤ) : Type 0 where
-  pub most : (k : ℕ) → k < n → natAbs (line base stride l k) ≤ B
-
 -- l′ is l with g on the line, and with no other cell changed
 pub record OntoLine (base stride n : ℕ) (g : ℕ → ℤ) (l l′ : List ℤ) : Type 0 where
   pub same : length l′ ≡ length l
