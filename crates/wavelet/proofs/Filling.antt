@@ -10,7 +10,7 @@ use lib.IntN.{ℤ, pos}
 use lib.ListN.{length, set, length-set}
 use lib.Seq.{getD-set-same, getD-set-other}
 use Rattle.whole.specs.Cells.{cell}
-use Rattle.wavelet.specs.Lines.{line, OntoLine}
+use Rattle.wavelet.specs.Lines.{OntoLine}
 
 -- the cells: the i-th stands at `at i`, and its turn is `turn i`
 pub record Filled {I : Type 0} (at : I → ℕ) (In : I → Type 0) (turn : I → ℕ) (g : I → ℤ) (f : ℕ) (l l′ : List ℤ) : Type 0 where
@@ -62,11 +62,6 @@ line-apart base stride h i k e = eq-of-mul-eq-mul-right stride h i k (omega arit
 
 pub line-ends : (base stride n f : ℕ) (g : ℕ → ℤ) {l l′ : List ℤ} → LineFilled base stride n g f l l′ → n ≤ f → OntoLine base stride n g l l′
 line-ends base stride n f g p h = record { same = p .same; on = λ k b. p .done k b (omega arith); off = p .off }
-
--- one filling of a line after another
-pub onto-onto : {base stride n : ℕ} {g h G : ℕ → ℤ} {x y z : List ℤ} → OntoLine base stride n g x y → OntoLine base stride n h y z
-    → ((k : ℕ) → k < n → h k ≡ G k) → OntoLine base stride n G x z
-onto-onto p q e = record { same = q .same ∙ p .same; on = λ k b. q .on k b ∙ e k b; off = λ j a. q .off j a ∙ p .off j a }
 
 -- a store is a run of one cell
 pub store-onto : (l : List ℤ) (c : ℕ) (z : ℤ) → c < length l → OntoLine c 0 1 (λ _. z) l (set l c z)

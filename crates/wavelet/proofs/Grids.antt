@@ -1,18 +1,18 @@
--- The cells of a grid of lines, filled line by line. Assumes nothing.
-use mathlib.Core.Path.{_≡_, refl, sym, ap, _∙_}
+-- The cells of a grid of lines, filtered in any order of turns, and then line after line. Assumes nothing.
+use mathlib.Core.Path.{_≡_, refl, ap}
 use mathlib.Core.List.{List}
-use Prim.Native.Nat.{ℕ, _+_, _*_, _^_, _≤_, _<_}
+use Prim.Native.Nat.{ℕ, _+_, _*_, _<_}
 use native.Mathlib.Nat.{eq-of-mul-eq-mul-right}
 use native.Mathlib.Omega.{arith}
 use lib.IntN.{ℤ}
 use lib.ListN.{length}
 use Rattle.wavelet.specs.Filter.{samples, filter}
-use Rattle.wavelet.specs.Lines.{line, Inside, LineWithin, OntoLine, Grid, GridWithin, OntoGrid}
-use Rattle.wavelet.proofs.Borders.{samples-handed}
+use Rattle.wavelet.specs.Lines.{line, OntoLine, Grid, GridWithin, OntoGrid}
+use Rattle.wavelet.specs.Sweeps.{Sweepable}
 use Rattle.wavelet.proofs.Filling.{Filled, filled-run}
-use Rattle.wavelet.proofs.Reading.{filter-reads}
+use Rattle.wavelet.proofs.Related.{filter-cong}
 
--- the sample k of line q is (q, k), and is to be the filter's
+-- sample k of line q is (q, k), and is to be the filter's
 abbrev pub Filtering : ℕ → ℕ → ℕ → ℕ → (ℕ × ℕ → ℕ) → List ℤ → ℕ → List ℤ → Type 0
 Filtering step m stride n turn x f =
     Filled {I = ℕ × ℕ} (λ i. i .0 * step + i .1 * stride) (λ i. (i .0 < m) × (i .1 < n)) turn (λ i. filter samples n (line (i .0 * step) stride x) (i .1)) f x
@@ -36,16 +36,17 @@ grid-ends step m stride n last p = record {
 
 -- ---- line after line
 
-module _ {step m stride n len : ℕ} (G : Grid step m stride n len) (q : ℕ) (h : q < m) where
-  pub row-inside : Inside (q * step) stride n len
-  row-inside = record { stride-up = G .stride-up; inside = λ k b. G .inside q k h b }
-
 module _ {step m stride n q : ℕ} {x y : List ℤ} (G : Grid step m stride n (length x)) (p : Filtering step m stride n (λ i. i .0) x q y) (h : q < m) where
   row-left : (k : ℕ) → k < n → line (q * step) stride y k ≡ line (q * step) stride x k
   row-left k b = p .left (q, k) (h, b) (omega arith)
 
-  pub row-within : GridWithin step m stride n (2 ^ 60) x → LineWithin (q * step) stride n (2 ^ 60) y
-  row-within W = record { most = λ k b. rw (row-left k b) (W .most q k h b) }
+  pub row-ready : {B : ℕ} → GridWithin step m stride n B x → Sweepable (q * step) stride n B y
+  row-ready W = record {
+    two = G .two;
+    stride-up = G .stride-up;
+    inside = λ k b. rw (p .same) (G .inside q k h b);
+    most = λ k b. rw (row-left k b) (W .most q k h b);
+  }
 
   pub row-step : {z : List ℤ} → OntoLine (q * step) stride n (filter samples n (line (q * step) stride y)) y z
       → Filtering step m stride n (λ i. i .0) x (q + 1) z
@@ -55,7 +56,7 @@ module _ {step m stride n q : ℕ} {x y : List ℤ} (G : Grid step m stride n (l
         spot = λ k. (q, k);
         one = λ k b. ((h, b), omega arith, omega arith);
         there = λ k b. refl;
-        value = filter-reads samples n (G .two) samples-handed (line (q * step) stride y) (line (q * step) stride x) row-left;
+        value = filter-cong samples n (G .two) (line (q * step) stride y) (line (q * step) stride x) row-left;
         all = λ i a u d. (i .1, a .1, pair (omega arith) refl);
       })
       p

@@ -1,12 +1,12 @@
--- The filter of a line reads the line's own samples, and the even samples that it makes are at most twice as large. Assumes nothing.
+-- A sweep reads the line's own samples, and its even samples are at most twice as large. Assumes nothing.
 use mathlib.Core.Path.{_≡_, sym, _∙_}
-use Prim.Native.Nat.{ℕ, _+_, _*_, _%_, _≤_, _<_}
+use Prim.Native.Nat.{ℕ, _*_, _%_, _≤_, _<_}
 use native.Mathlib.Decide.{ℕ-discrete}
 use native.Mathlib.Omega.{arith}
 use lib.IntN.{ℤ, natAbs}
 use Rattle.whole.specs.Numbers.{gap}
 use Rattle.wavelet.specs.Filter.{Steps, samples, filter}
-use Rattle.wavelet.specs.Sweeps.{right, step, swept}
+use Rattle.wavelet.specs.Sweeps.{right, swept}
 use Rattle.wavelet.proofs.Borders.{Even-handed, filter-even, swept-on, swept-off, sweeps}
 use Rattle.wavelet.proofs.Sizes.{even-size}
 
@@ -24,14 +24,18 @@ module _ {A : Type 0} (S : Steps A) (Z : ℕ) (two : 2 ≤ Z) where
   pub sweeps-of : Even-handed S → (X Y : ℕ → A) → ((i : ℕ) → i < Z → Y i ≡ swept S 0 Z X i) → (i : ℕ) → i < Z → swept S 1 Z Y i ≡ filter S Z X i
   sweeps-of handed X Y same i h = swept-reads 1 Y (swept S 0 Z X) same i h ∙ sweeps S handed Z two X i h
 
-  pub filter-reads : Even-handed S → (X Y : ℕ → A) → ((i : ℕ) → i < Z → X i ≡ Y i) → (i : ℕ) → i < Z → filter S Z X i ≡ filter S Z Y i
-  filter-reads handed X Y same i h =
-      sym (sweeps S handed Z two X i h) ∙ sweeps-of handed Y (swept S 0 Z X) (swept-reads 0 X Y same) i h
+-- ---- how large a line's samples become
 
 module _ (Z : ℕ) (two : 2 ≤ Z) (X : ℕ → ℤ) {B : ℕ} (some : 2 ≤ B) (most : (i : ℕ) → i < Z → natAbs (X i) ≤ B) where
+  even-place-size : (i : ℕ) → i < Z → natAbs (samples .even (X i) (X (gap i 1)) (X (right Z i))) ≤ 2 * B
+  even-place-size i h = even-size (X i) (X (gap i 1)) (X (right Z i)) some (most i h) (most (gap i 1) (omega arith)) (most (right Z i) (omega arith))
+
   pub even-sweep-size : (i : ℕ) → i < Z → natAbs (swept samples 0 Z X i) ≤ 2 * B
   even-sweep-size i h = pick (ℕ-discrete (i % 2) 0)
     where
       pick : Dec (i % 2 ≡ 0) → natAbs (swept samples 0 Z X i) ≤ 2 * B
-      pick (yes e) = rw (swept-on samples 0 Z X i e) (even-size (X i) (X (gap i 1)) (X (right Z i)) some (most i h) (most _ (omega arith)) (most _ (omega arith)))
+      pick (yes e) = rw (swept-on samples 0 Z X i e) (even-place-size i h)
       pick (no o) = rw (swept-off samples 0 Z X i o) (omega (arith, most i h))
+
+  pub filter-even-size : (i : ℕ) → i < Z → i % 2 ≡ 0 → natAbs (filter samples Z X i) ≤ 2 * B
+  filter-even-size i h e = rw (filter-even samples Z two X i h e) (even-place-size i h)

@@ -2,7 +2,7 @@
 -- even place comes before the odd ones beside it. So what its turn reads is what the filter asks for. Assumes nothing.
 use mathlib.Core.Path.{_≡_, refl, sym, ap, _∙_}
 use mathlib.Core.List.{List}
-use Prim.Native.Nat.{ℕ, _+_, _*_, _-_, _%_, _^_, _≤_, _<_}
+use Prim.Native.Nat.{ℕ, _+_, _*_, _%_, _^_, _≤_, _<_}
 use native.Mathlib.Decide.{ℕ-discrete}
 use native.Mathlib.Nat.{add-comm}
 use native.Mathlib.Omega.{arith}
@@ -10,7 +10,6 @@ use borrow.Author.Tests.{eq-eqb, ne-eqb}
 use lib.Dec.{lit≤}
 use lib.IntN.{ℤ, natAbs}
 use lib.ListN.{length}
-use Rattle.whole.specs.Cells.{cell}
 use Rattle.whole.specs.Numbers.{gap}
 use Rattle.wavelet.specs.Filter.{samples, filter}
 use Rattle.wavelet.specs.Lines.{line, OntoLine, Grid, GridWithin}
@@ -18,8 +17,9 @@ use Rattle.wavelet.specs.Sweeps.{right, step as stepped, Small, Liftable
 use Rattle.wavelet.proofs.Borders.{filter-even, filter-odd, samples-handed}
 use Rattle.wavelet.proofs.Filling.{filled-starts, filled-run}
 use Rattle.wavelet.proofs.Grids.{Filtering, grid-apart, pair}
-use Rattle.wavelet.proofs.Sizes.{even-size}
+use Rattle.wavelet.proofs.Reading.{filter-even-size}
 
+-- the turn of a sample
 abbrev pub late : ℕ × ℕ → ℕ
 late i = i .1 + 2 * (i .1 % 2)
 
@@ -87,14 +87,11 @@ module _ {b step m stride n k f f′ : ℕ} {x y : List ℤ} (G : Grid step m st
       small-r = pick (right n k) (right-place D) (λ e. D .ready e .1) (ℕ-discrete b 0);
     }
       where
-        even-small : (i : ℕ) → i < n → i % 2 ≡ 0 → natAbs (filter samples n X i) ≤ 2 ^ 61
-        even-small i a e = rw (filter-even samples n (D .two) X i a e) (even-size (X i) (X (gap i 1)) (X (right n i)) (lit≤ tt) (W .most q i h a) (W .most q _ h (omega (arith, D .two))) (W .most q _ h (omega (arith, D .two))))
-
         pick : (i : ℕ) → (i < n) × (k ≤ i + 1) × (i % 2 + b ≡ 1) → (b ≡ 1 → i < f) → Dec (b ≡ 0) → natAbs (Y i) ≤ 2 ^ 61
         pick i a c (yes e) = rw (not-yet e i a) (omega (arith, W .most q i h (a .0)))
         pick i a c (no o) =
             let e : b ≡ 1 = omega (arith, D .here) in
-            rw (already e i a (c e)) (even-small i (a .0) (omega arith))
+            rw (already e i a (c e)) (filter-even-size n (D .two) X (lit≤ tt) (λ j. W .most q j h) i (a .0) (omega arith))
 
   turned : (i q : ℕ) → i * stride + q * step ≡ q * step + i * stride
   turned i q = add-comm (i * stride) (q * step)

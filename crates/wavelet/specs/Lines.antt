@@ -1,7 +1,7 @@
 -- Lines of cells in a lent slice, and what filtering them in place leaves.
 use mathlib.Core.Path.{_≡_}
 use mathlib.Core.List.{List}
-use Prim.Native.Nat.{ℕ, _+_, _*_, _^_, _≤_, _<_}
+use Prim.Native.Nat.{ℕ, _+_, _*_, _≤_, _<_}
 use lib.IntN.{ℤ, natAbs}
 use lib.ListN.{length}
 use Rattle.whole.specs.Cells.{cell}
@@ -9,15 +9,6 @@ use Rattle.whole.specs.Cells.{cell}
 -- the k-th cell of the line that starts at `base`
 abbrev pub line : ℕ → ℕ → List ℤ → ℕ → ℤ
 line base stride l k = cell l (base + k * stride)
-
--- n cells of that line, all in a slice of that length
-pub record Inside (base stride n len : ℕ) : Type 0 where
-  pub stride-up : 0 < stride
-  pub inside : (k : ℕ) → k < n → base + k * stride < len
-
--- each of these cells is at most B in size
-pub record LineWithin (base stride n B : ℕ) (l : List ℤ) : Type 0 where
-  pub most : (k : ℕ) → k < n → natAbs (line base stride l k) ≤ B
 
 -- l′ is l with g on the line, and with no other cell changed
 pub record OntoLine (base stride n : ℕ) (g : ℕ → ℤ) (l l′ : List ℤ) : Type 0 where

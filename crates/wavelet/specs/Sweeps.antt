@@ -28,13 +28,20 @@ pub record Small (x l r : ℤ) : Type 0 where
   pub small-l : natAbs l ≤ 2 ^ 61
   pub small-r : natAbs r ≤ 2 ^ 61
 
--- what a lifting loop takes: n cells from c on, s apart, their neighbours from l and from r on, likewise apart, and no cell that is both
+-- what a sweep along a line takes: n samples, at least 2, all in the slice, and of at most B in size
+pub record Sweepable (base stride n B : ℕ) (cells : List ℤ) : Type 0 where
+  pub two : 2 ≤ n
+  pub stride-up : 0 < stride
+  pub inside : (k : ℕ) → k < n → base + k * stride < length cells
+  pub most : (k : ℕ) → k < n → natAbs (line base stride cells k) ≤ B
+
+-- what the lifting loop takes: n cells from c on, s apart, and their neighbours from l and from r on, none of which it writes
 pub record Liftable (s n c l r : ℕ) (cells : List ℤ) : Type 0 where
   pub step-up : 0 < s
   pub inside : (j : ℕ) → j < n → (c + j * s < length cells) × (l + j * s < length cells) × (r + j * s < length cells)
   pub apart : (i j : ℕ) → i < n → j < n → (l + i * s ≡ c + j * s → ⊥) × (r + i * s ≡ c + j * s → ⊥)
   pub small : (j : ℕ) → j < n → Small (line c s cells j) (line l s cells j) (line r s cells j)
 
--- what it leaves in the j-th of them
+-- what it leaves in the j-th cell
 abbrev pub lifted : ℕ → ℕ → ℕ → ℕ → ℕ → List ℤ → ℕ → ℤ
 lifted b s c l r cells j = step samples b (line c s cells j) (line l s cells j) (line r s cells j)

@@ -1,15 +1,15 @@
 // Lines of samples filtered in place, along the rows of a component and down its columns.
 
 ghost use mathlib.Core.Path.{_≡_};
-ghost use Prim.Native.Nat.{ℕ, _+_, _*_, _-_, _^_, _<_, _≤_};
+ghost use Prim.Native.Nat.{_*_, _^_, _<_, _≤_};
 ghost use lib.ListN.{length, set};
 ghost use Rattle.whole.specs.Cells.{cell};
 ghost use Rattle.whole.specs.Numbers.{gap};
 ghost use Rattle.wavelet.specs.Filter.{even-step, odd-step, samples, filter};
-ghost use Rattle.wavelet.specs.Lines.{line, Inside, LineWithin, OntoLine, Grid, GridWithin, OntoGrid};
-ghost use Rattle.wavelet.specs.Sweeps.{right, step, swept, Small, Liftable, lifted};
+ghost use Rattle.wavelet.specs.Lines.{line, OntoLine, Grid, GridWithin, OntoGrid};
+ghost use Rattle.wavelet.specs.Sweeps.{right, step, swept, Small, Sweepable, Liftable, lifted};
 
-// Table E.6, an even place. The shift rounds down, where a division would round toward zero.
+// Table E.6 at an even place. The shift rounds down, where a division would round toward zero.
 fn even_step(x: i64, l: i64, r: i64) -> i64
     requires { ⌜ Small x l r ⌝ }
     ensures { λ y. ⌜ y ≡ even-step x l r ⌝ }
@@ -17,7 +17,7 @@ fn even_step(x: i64, l: i64, r: i64) -> i64
     x - ((l + r + 2) >> 2)
 }
 
-// Table E.6, an odd place.
+// Table E.6 at an odd place.
 fn odd_step(x: i64, l: i64, r: i64) -> i64
     requires { ⌜ Small x l r ⌝ }
     ensures { λ y. ⌜ y ≡ odd-step x l r ⌝ }
@@ -25,6 +25,7 @@ fn odd_step(x: i64, l: i64, r: i64) -> i64
     x + ((l + r) >> 1)
 }
 
+// The step of the even samples (b = 0) or of the odd ones (b = 1).
 fn step_of(b: usize, x: i64, l: i64, r: i64) -> i64
     requires { ⌜ Small x l r ⌝ }
     ensures { λ y. ⌜ y ≡ step samples b x l r ⌝ }
@@ -36,6 +37,7 @@ fn step_of(b: usize, x: i64, l: i64, r: i64) -> i64
     }
 }
 
+// The step of the cell c, with the cells l and r beside it.
 fn lift_one(cells: &mut [i64], b: usize, c: usize, l: usize, r: usize)
     requires { ⌜ (c < length (now cells)) × (l < length (now cells)) × (r < length (now cells)) ⌝ }
     requires { ⌜ Small (cell (now cells) c) (cell (now cells) l) (cell (now cells) r) ⌝ }
@@ -44,8 +46,8 @@ fn lift_one(cells: &mut [i64], b: usize, c: usize, l: usize, r: usize)
     cells[c] = step_of(b, cells[c], cells[l], cells[r]);
 }
 
-// The lifting loop of both directions: n cells from c on, s apart, each with the cells beside it from l and from r on. `b` does not change in
-// the loop, so that the choice of the step leaves it.
+// The lifting loop of both directions: n cells from c on, s apart, and the cells beside them from l and from r on. There is no branch for a line's ends:
+// callers say where the neighbours are. b is the same in every turn, so that the choice of the step leaves the loop.
 fn lift(cells: &mut [i64], b: usize, c: usize, l: usize, r: usize, s: usize, n: usize)
     requires { ⌜ Liftable s n c l r (now cells) ⌝ }
     ensures { λ _. ⌜ OntoLine c s n (lifted b s c l r (now (cells .entry))) (now (cells .entry)) (now (cells .exit)) ⌝ }
@@ -58,11 +60,10 @@ fn lift(cells: &mut [i64], b: usize, c: usize, l: usize, r: usize, s: usize, n: 
     }
 }
 
-// The samples of a line whose place is b modulo 2. Most have a neighbour on each side, two places apart from the next one's. At the line's ends, where
-// there is such a sample at all, its one neighbour stands for both.
+// The samples of a line whose place is b modulo 2: those between two neighbours, and at either end of the line, if its sample is one of them (that is one
+// sample or none), with the one neighbour that it has on both sides.
 fn sweep(cells: &mut [i64], b: usize, base: usize, stride: usize, n: usize)
-    requires { ⌜ Inside base stride n (length (now cells)) × (2 ≤ n) × (b < 2) ⌝ }
-    requires { ⌜ LineWithin base stride n (2 ^ 61) (now cells) ⌝ }
+    requires { ⌜ Sweepable base stride n (2 ^ 61) (now cells) × (b < 2) ⌝ }
     ensures { λ _. ⌜ OntoLine base stride n (swept samples b n (line base stride (now (cells .entry)))) (now (cells .entry)) (now (cells .exit)) ⌝ }
 {
     let s = 2 * stride;
@@ -82,17 +83,16 @@ fn sweep(cells: &mut [i64], b: usize, base: usize, stride: usize, n: usize)
     lift(cells, b, last + stride, last, last, s, (n - b) % 2);
 }
 
-// E.7 for one line.
+// E.7 for one line: the even samples, and then the odd ones from them.
 fn filter_line(cells: &mut [i64], base: usize, stride: usize, n: usize)
-    requires { ⌜ Inside base stride n (length (now cells)) × (2 ≤ n) ⌝ }
-    requires { ⌜ LineWithin base stride n (2 ^ 60) (now cells) ⌝ }
+    requires { ⌜ Sweepable base stride n (2 ^ 60) (now cells) ⌝ }
     ensures { λ _. ⌜ OntoLine base stride n (filter samples n (line base stride (now (cells .entry)))) (now (cells .entry)) (now (cells .exit)) ⌝ }
 {
     sweep(cells, 0, base, stride, n);
     sweep(cells, 1, base, stride, n);
 }
 
-// E.7 for m lines of n samples, `stride` apart: the q-th starts at q * step. One line after another, since each lies together in memory.
+// E.7 for m lines of n samples, `stride` apart, of which the q-th starts at q * step. One line after another: right where a line lies together in memory.
 pub fn rows(cells: &mut [i64], step: usize, m: usize, stride: usize, n: usize)
     requires { ⌜ Grid step m stride n (length (now cells)) ⌝ }
     requires { ⌜ GridWithin step m stride n (2 ^ 60) (now cells) ⌝ }
@@ -105,6 +105,7 @@ pub fn rows(cells: &mut [i64], step: usize, m: usize, stride: usize, n: usize)
     }
 }
 
+// The places beside place k. Past a line's end E.6 mirrors: the sample before the end stands there.
 fn left_of(k: usize) -> usize
     ensures { λ r. ⌜ r ≡ gap k 1 ⌝ }
 {
@@ -118,7 +119,7 @@ fn right_of(n: usize, k: usize) -> usize
     if k + 1 < n { k + 1 } else { k - 1 }
 }
 
-// Sample k of all m lines at once.
+// The step at place k of all m lines: a run along memory, if the lines start close to each other.
 fn across(cells: &mut [i64], b: usize, step: usize, m: usize, stride: usize, n: usize, k: usize)
     requires { ⌜ (0 < m) × (2 ≤ n) × (k < n) ⌝ }
     requires { ⌜ Liftable step m (k * stride) (gap k 1 * stride) (right n k * stride) (now cells) ⌝ }
@@ -135,13 +136,14 @@ fn across(cells: &mut [i64], b: usize, step: usize, m: usize, stride: usize, n: 
     );
 }
 
-// What `rows` does, for lines that lie across memory, as the columns of a component do: all lines go along together, so that each turn of the loop
-// reads and writes whole rows of memory. An odd sample follows two places behind the even ones, while the rows that it needs are still in the cache.
+// What `rows` does, for lines across memory, as the columns of a component are: all lines go together, place after place, so that the cache lines that
+// a step fetches are used whole. An odd place follows as soon as the even places beside it are done, while they are still in the cache.
 pub fn columns(cells: &mut [i64], step: usize, m: usize, stride: usize, n: usize)
     requires { ⌜ Grid step m stride n (length (now cells)) ⌝ }
     requires { ⌜ GridWithin step m stride n (2 ^ 60) (now cells) ⌝ }
     ensures { λ _. ⌜ OntoGrid step m stride n (λ q. filter samples n (line (q * step) stride (now (cells .entry)))) (now (cells .entry)) (now (cells .exit)) ⌝ }
 {
+    // with no line there is no bound on the places below
     if m == 0 {
         return;
     }

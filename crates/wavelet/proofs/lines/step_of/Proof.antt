@@ -7,20 +7,7 @@ use Rattle.wavelet.specs.Filter.{samples}
 use borrow.Author.Needs.{needs}
 use Rattle.wavelet.proofs.lines.step_of.Statement.{statement}
 use Rattle.wavelet.proofs.lines.step_of.Tie as tie
-use Rattle.wavelet.proofs.lines.step_of.Reads as reads
-use Rattle.wavelet.proofs.lines.step_of.Lts as lts
-use Rattle.wavelet.proofs.lines.even_step.Reads as even-step-reads
-use Rattle.wavelet.proofs.lines.odd_step.Reads as odd-step-reads
 
--- src/lines.rt:33:9
-even-step-requires : tie.Need-even-step-requires
-even-step-requires c κs = search needs
-
--- src/lines.rt:35:9
-odd-step-requires : tie.Need-odd-step-requires
-odd-step-requires c κs = search needs
-
--- src/lines.rt:28:1
 returns : tie.Need-returns
 unfolding samples
 returns c =
@@ -28,7 +15,6 @@ returns c =
     rw (eq-eqb (s .args .b) 0 (c .before .if1 .taken))
     (back64 (c .even-step .result) (c .even-step .ok) ∙ (simp (toZ-ofZ, s .fits .x, s .fits .l, s .fits .r) at (c .even-step .ensures)))
 
--- src/lines.rt:28:1
 returns-2 : tie.Need-returns-2
 unfolding samples
 returns-2 c =
@@ -37,4 +23,4 @@ returns-2 c =
     (back64 (c .odd-step .result) (c .odd-step .ok) ∙ (simp (toZ-ofZ, s .fits .x, s .fits .l, s .fits .r) at (c .odd-step .ensures)))
 
 pub step-of-spec : {M : Type 1} → statement M
-step-of-spec = tie.close (tie.spec even-step-requires odd-step-requires returns returns-2)
+step-of-spec = tie.close (tie.spec (λ c κs. search needs) (λ c κs. search needs) returns returns-2)
