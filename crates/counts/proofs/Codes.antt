@@ -9,6 +9,7 @@ use native.Mathlib.Numerals.{add-one}
 use native.Mathlib.Decide.{decLe}
 use borrow.Author.Tests.{lt-ltb, le-ltb, eq-eqb, ne-eqb}
 use lib.Count.{leadingZeros, leading-of-zero, leading-top, leading-length, leading-unique}
+use lib.Pow.{pow-pos}
 use lib.IntN.{pos, negℤ, _+ℤ_}
 use lib.ListN.{length}
 use Rattle.bits.specs.Fields.{bitAt, field, IsField}
@@ -42,10 +43,10 @@ lead-part : (w x : ℕ) → leadingZeros w x < w → 0 < x
 lead-part w zero h = absurd (omega (arith, leading-of-zero w))
 lead-part w (suc x) h = omega arith
 
-pub lead-wide : (k w x : ℕ) → x < 2 ^ w → leadingZeros (k + w) x ≡ k + leadingZeros w x
-lead-wide k w x h =
+lead-wide : (k w x : ℕ) → w ≤ k → x < 2 ^ w → leadingZeros k x ≡ k - w + leadingZeros w x
+lead-wide k w x g h =
     let l = leading-length w x h in
-    sym (leading-unique (k + w) x (k + leadingZeros w x) (l .0) (omega (arith, l .1)) (l .2) (l .3))
+    sym (leading-unique k x (k - w + leadingZeros w x) (l .0) (omega (arith, l .1)) (l .2) (l .3))
 
 -- ---- the 1-bits
 
@@ -101,8 +102,21 @@ module _ (s : List ℕ) where
       rw (suc-add, more i (a + l) e, ones-join (i + 1) a l k, j) (omega arith))
       (bit-is i)
 
-  ones-le : (i a : ℕ) → ones s i a ≤ a
+  pub ones-le : (i a : ℕ) → ones s i a ≤ a
   ones-le i a = omega (arith, ones-cap i a a (λ k. omega arith))
+
+  -- a window of w bits behind n 1-bits: it is full, or the 1-bits end in it
+  module _ (at n w k : ℕ) (h : ones s at n ≡ n) (e : k ≡ ones s (at + n) w) where
+    joined : ones s at (n + w) ≡ n + k
+    joined = ones-join at n w h ∙ ap (λ (x : ℕ). n + x) (sym e)
+
+    pub ones-full : w ≤ k → ones s at (n + k) ≡ n + k
+    ones-full f =
+        let g : k ≡ w = omega (arith, ones-le (at + n) w) in
+        ap (λ (x : ℕ). ones s at (n + x)) g ∙ joined
+
+    pub ones-ended : (limit : ℕ) → k < w → ones s at limit ≡ min limit (n + k)
+    ones-ended limit f = rw (← joined) (ones-cap at (n + w) limit (λ g. absurd (omega (arith, joined))))
 
   -- one bit more: x is the window of w bits, turned round
   window-more : (i w x : ℕ) → x < 2 ^ w → ones s i w ≡ leadingZeros w x → ones s i (suc w) ≡ leadingZeros (suc w) (2 * x + (1 - bitAt s (i + w)))
@@ -133,6 +147,10 @@ module _ (s : List ℕ) where
       let turned : 2 ^ suc w - 1 - field s i (suc w) ≡ 2 * (2 ^ w - 1 - field s i w) + (1 - bitAt s (i + w)) =
           rw pow-suc (omega (arith, field-lt s i w, field-one s (i + w), field-lt s (i + w) 1)) in
       rw turned (window-more i w _ (omega (arith, field-lt s i w)) (ones-window i w))
+
+-- the same of a window that was read, in a word of k bits
+pub ones-read : {s : List ℕ} {i w r : ℕ} (k : ℕ) → w ≤ k → IsField s i w r → leadingZeros k (2 ^ w - 1 - r) ≡ k - w + ones s i w
+ones-read {s} {i} {w} k h x = rw (x .value, ones-window s i w) (lead-wide k w _ h (omega (arith, pow-pos w)))
 
 -- ---- the quantity
 

@@ -44,7 +44,7 @@ fn too_many(br: usize) -> usize
     requires { ⌜ br ≤ 5 ⌝ }
     ensures { λ r. ⌜ Limit br r ⌝ }
 {
-    2 << br
+    1 << (br + 1)
 }
 
 // The predictor mtop, moved by the code at the bit i.

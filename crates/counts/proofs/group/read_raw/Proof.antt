@@ -1,40 +1,42 @@
+-- `counts::group::read_raw` meets its contract. Assumes nothing.
+use Prim.Native.Nat.{ℕ, _+_, _*_, _<_, _≤_}
+use mathlib.Core.Path.{_≡_, _∙_, ap}
+use native.Mathlib.Omega.{arith}
 use borrow.Author.Needs.{needs}
+use borrow.Author.Tests.{le-leb, lt-leb}
+use lib.IntN.{pos}
+use lib.ListN.{length}
+use denote.Ref.{now}
+use Rattle.counts.specs.Groups.{counted}
 use Rattle.counts.proofs.group.read_raw.Statement.{statement}
 use Rattle.counts.proofs.group.read_raw.Tie as tie
-use Rattle.counts.proofs.group.read_raw.Reads as reads
-use Rattle.counts.proofs.group.read_raw.Lts as lts
-use Rattle.bits.proofs.field.Reads as field-reads
-use Rattle.counts.proofs.group.in_range.Reads as in-range-reads
 
--- src/group.rt:75:15
-mul-all : tie.Need-mul-all
-mul-all c = search needs
-
--- src/group.rt:78:9
 returns : tie.Need-returns
-returns c = ?
+returns c =
+    let a = c .before .before .args in
+    let h : 8 * length (now (a .s)) < a .i + a .c .br = omega arith in
+    rw (lt-leb _ _ h)
 
--- src/group.rt:81:9
 returns-2 : tie.Need-returns-2
-returns-2 c = ?
+returns-2 c =
+    let a = c .before .before .before .args in
+    let h : 8 * length (now (a .s)) < a .i + a .c .br = omega arith in
+    rw (lt-leb _ _ h)
 
--- src/group.rt:83:14
-field-requires : tie.Need-field-requires
-field-requires c κs = search needs
-
--- src/group.rt:83:37
-add-in-range : tie.Need-add-in-range
-add-in-range c = search needs
-
--- src/group.rt:83:5
-in-range-requires : tie.Need-in-range-requires
-in-range-requires c κs = search needs
-
--- src/group.rt:71:1
 returns-3 : tie.Need-returns-3
-returns-3 c = ?
+returns-3 c =
+    let a = c .before .before .before .before .before .args in
+    let h : a .i + a .c .br ≤ 8 * length (now (a .s)) = omega arith in
+    rw (le-leb _ _ h) (c .in-range .ensures ∙ ap (λ (m : ℕ). counted (pos m) (a .i + a .c .br)) (c .before .field .ensures .value))
 
 pub read-raw-spec : {M : Type 1} → statement M
 read-raw-spec =
     tie.close
-    (tie.spec mul-all returns returns-2 field-requires add-in-range in-range-requires returns-3)
+    (tie.spec
+    (λ c. search needs)
+    returns
+    returns-2
+    (λ c κs. search needs)
+    (λ c. search needs)
+    (λ c κs. search needs)
+    returns-3)

@@ -1,16 +1,16 @@
+-- `counts::group::too_many` meets its contract. Assumes nothing.
+use Prim.Native.Nat.{_+_}
+use native.Mathlib.Omega.{arith}
 use borrow.Author.Needs.{needs}
+use lib.Pow.{pow-mono}
+use Rattle.whole.proofs.Machine.{one-shl}
 use Rattle.counts.proofs.group.too_many.Statement.{statement}
 use Rattle.counts.proofs.group.too_many.Tie as tie
-use Rattle.counts.proofs.group.too_many.Reads as reads
-use Rattle.counts.proofs.group.too_many.Lts as lts
 
--- src/group.rt:47:5
-shl-result : tie.Need-shl-result
-shl-result c = search needs
-
--- src/group.rt:43:1
 returns : tie.Need-returns
-returns c = ?
+returns c =
+    let e = one-shl (c .args .br + 1) (omega arith) in
+    record { limit = e; most = rw e (pow-mono {j = 6} (omega arith)) }
 
 pub too-many-spec : {M : Type 1} → statement M
-too-many-spec = tie.close (tie.spec shl-result returns)
+too-many-spec = tie.close (tie.spec (λ c. search needs) (λ c. search needs) returns)
