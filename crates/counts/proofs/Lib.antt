@@ -1,2 +1,3 @@
 -- Laws of codes, of groups and of lines.
 pub mod Codes
+pub mod Groups

@@ -57,7 +57,7 @@ unfoldable pub unpack : List ℕ → List ℕ → Coding → Place → ℕ → �
 unpack s sig c p z g i cells = by (c .mode)
   where
     by : Mode → Group
-    by Raw = unpackRaw s c i
+    by Raw = unpackRaw s (c .br) i
     by NoPrediction = unpackNopred s c (insignificant sig c z g) i
     by Vertical = unpackVertical s c (insignificant sig c z g) (heldM (above p g cells)) (heldT (above p g cells)) i
 
@@ -97,7 +97,14 @@ row (Done next need) = 0
 row Cut = 6
 row High = 7
 
--- ---- what the reader asks: a stretch of `bytes` bytes, and n cells that hold the line and, for vertical prediction, the line above it
+-- ---- what the readers ask and answer
+
+-- the bound follows from M ≤ 31, and stands beside the number for the callers' sums
+pub record Nibbles (c : Coding) (m r : ℕ) : Type 0 where
+  pub number : r ≡ nibbles c m
+  pub most : r ≤ 32
+
+-- what the line's reader asks: a stretch of `bytes` bytes, and n cells that hold the line and, for vertical prediction, the line above it
 pub record Ready (c : Coding) (p : Place) (bytes z n : ℕ) : Type 0 where
   pub br : c .br ≤ 5
   pub t : c .t ≤ 31

@@ -9,7 +9,7 @@ ghost use mathlib.Core.Path.{_≡_};
 ghost use Prim.Native.Nat.{_+_, _*_, _/_, _%_, _^_, _≤_, _<_};
 ghost use lib.ListN.{length};
 ghost use Rattle.whole.proofs.Linear.{up};
-ghost use Rattle.counts.specs.Lines.{packed, countCell, insignificant, unpack, nibbles, lineCounts, Ready};
+ghost use Rattle.counts.specs.Lines.{packed, countCell, insignificant, unpack, Nibbles, lineCounts, Ready};
 
 // Where the cells of a line lie: coefficient x at `first` + x `stride`, for x below `width`, its count `area` cells behind it, and the
 // same coefficient one line up `up` cells before it.
@@ -34,4 +34,47 @@ fn held(z: i64) -> usize
     ensures { λ r. ⌜ r ≡ up z ⌝ }
 {
     if z < 0 { 0 } else { z as usize }
+}
+
+// A count and a truncation position as a cell holds them.
+fn to_hold(m: usize, t: usize) -> i64
+    requires { ⌜ (m ≤ 31) × (t ≤ 31) ⌝ }
+    ensures { λ r. ⌜ r ≡ packed m t ⌝ }
+{
+    (m + 32 * t) as i64
+}
+
+// How many nibbles of data the group with the count m takes.
+fn group_nibbles(c: Coding, m: usize) -> usize
+    requires { ⌜ m ≤ 31 ⌝ }
+    ensures { λ r. ⌜ Nibbles c m r ⌝ }
+{
+    let t = c.t;
+    if m <= t {
+        return 0;
+    }
+    if c.signs {
+        return m - t + 1;
+    }
+    m - t
+}
+
+// The count cell of the code group g.
+fn count_cell(p: Place, g: usize) -> usize
+    requires { ⌜ (g < 2 ^ 60) × (countCell p g < 2 ^ 64) ⌝ }
+    ensures { λ r. ⌜ r ≡ countCell p g ⌝ }
+{
+    p.first + 4 * g * p.stride + p.area
+}
+
+// Is the code group g in a significance group whose flag is set?
+fn is_insignificant(sig: &[u8], c: Coding, z: usize, g: usize) -> bool
+    requires { ⌜ z < 2 ^ 60 ⌝ }
+    ensures { λ r. ⌜ r ≡ insignificant (now (sig .entry)) c z g ⌝ }
+{
+    if c.flags {
+        bits::bit(sig, z + g / 8) == 1
+    } else {
+        false
+    }
 }
