@@ -68,7 +68,7 @@ fn read_code(s: &[u8], br: usize, mtop: usize, t: usize, i: usize) -> Group
 }
 
 // Table C.14.
-fn read_raw(s: &[u8], br: usize, i: usize) -> Group
+pub fn read_raw(s: &[u8], br: usize, i: usize) -> Group
     requires { ⌜ (length (now s) < 2 ^ 56) × (br ≤ 5) ⌝ }
     ensures { λ r. ⌜ r ≡ unpackRaw (now (s .entry)) br i ⌝ }
 {
@@ -83,7 +83,7 @@ fn read_raw(s: &[u8], br: usize, i: usize) -> Group
 }
 
 // Table C.16.
-fn read_nopred(s: &[u8], c: Coding, insignificant: bool, i: usize) -> Group
+pub fn read_nopred(s: &[u8], c: Coding, insignificant: bool, i: usize) -> Group
     requires { ⌜ (length (now s) < 2 ^ 56) × (c .br ≤ 5) × (c .t ≤ 31) ⌝ }
     ensures { λ r. ⌜ r ≡ unpackNopred (now (s .entry)) c insignificant i ⌝ }
 {
@@ -101,7 +101,7 @@ fn larger(a: usize, b: usize) -> usize
 }
 
 // Table C.15, below a group with the count m_above and the truncation position t_above.
-fn read_vertical(s: &[u8], c: Coding, insignificant: bool, m_above: usize, t_above: usize, i: usize) -> Group
+pub fn read_vertical(s: &[u8], c: Coding, insignificant: bool, m_above: usize, t_above: usize, i: usize) -> Group
     requires { ⌜ (length (now s) < 2 ^ 56) × (c .br ≤ 5) × (c .t ≤ 31) × («m_above» ≤ 31) × («t_above» ≤ 31) ⌝ }
     ensures { λ r. ⌜ r ≡ unpackVertical (now (s .entry)) c insignificant «m_above» «t_above» i ⌝ }
 {

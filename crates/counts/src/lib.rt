@@ -78,3 +78,74 @@ fn is_insignificant(sig: &[u8], c: Coding, z: usize, g: usize) -> bool
         false
     }
 }
+
+// The count of the code group g, at the bit i of its stretch. The cell of the line above is read where it predicts.
+fn group_at(
+    stretch: &[u8],
+    sig: &[u8],
+    cells: &[i64],
+    c: Coding,
+    p: Place,
+    z: usize,
+    g: usize,
+    i: usize,
+) -> Group
+    requires { ⌜ Ready c p (length (now stretch)) z (length (now cells)) × (4 * g < p .width) ⌝ }
+    ensures { λ r. ⌜ r ≡ unpack (now (stretch .entry)) (now (sig .entry)) c p z g i (now (cells .entry)) ⌝ }
+{
+    let mode = c.mode;
+    match mode {
+        Mode::Raw => group::read_raw(stretch, c.br, i),
+        Mode::NoPrediction => group::read_nopred(stretch, c, is_insignificant(sig, c, z, g), i),
+        Mode::Vertical => {
+            let above = held(cells[count_cell(p, g) - p.up]);
+            group::read_vertical(
+                stretch,
+                c,
+                is_insignificant(sig, c, z, g),
+                above % 32,
+                above / 32 % 32,
+                i,
+            )
+        }
+    }
+}
+
+// The counts of a line, from the bit `at` of their stretch on; the line's significance flags stand in `sig` from the bit `sig_at` on.
+pub fn line_counts(
+    stretch: &[u8],
+    sig: &[u8],
+    cells: &mut [i64],
+    coding: Coding,
+    place: Place,
+    at: usize,
+    sig_at: usize,
+) -> Line
+    requires { ⌜ Ready coding place (length (now stretch)) «sig_at» (length (now cells)) ⌝ }
+    ensures { λ r. ⌜ lineCounts (now (stretch .entry)) (now (sig .entry)) coding place at «sig_at» (now (cells .entry)) ≡ (r, now (cells .exit)) ⌝ }
+{
+    let groups = (place.width + 3) / 4;
+    let mut i = at;
+    let mut need: usize = 0;
+    let mut g: usize = 0;
+    while g < groups {
+        match group_at(stretch, sig, cells, coding, place, sig_at, g, i) {
+            Group::Count(m, next) => {
+                cells[count_cell(place, g)] = to_hold(m, coding.t);
+                need += group_nibbles(coding, m);
+                i = next;
+            }
+            Group::Cut => {
+                return Line::Cut;
+            }
+            Group::High => {
+                return Line::High;
+            }
+        }
+        g += 1;
+    }
+    Line::Done {
+        next: i,
+        need: need,
+    }
+}
