@@ -13,7 +13,7 @@ use Rattle.counts.specs.declared.group.Group.{Group}
 use Rattle.counts.specs.declared.group.Group.the-variants.{Count, Cut, High}
 
 -- a count is 0 to 31, whatever Br is; any other is refused
-abbrev pub counted : ℤ → ℕ → Group
+unfoldable pub counted : ℤ → ℕ → Group
 counted (pos m) next = cond (leb m 31) (Count m next) High
 counted (negsuc m) next = High
 

@@ -53,13 +53,10 @@ abbrev pub above : Place → ℕ → List ℤ → ℤ
 above p g cells = cell cells (countCell p g - p .up)
 
 -- Table C.8: the count of group g, which stands at bit i of the stretch
-unfoldable pub unpack : List ℕ → List ℕ → Coding → Place → ℕ → ℕ → ℕ → List ℤ → Group
-unpack s sig c p z g i cells = by (c .mode)
-  where
-    by : Mode → Group
-    by Raw = unpackRaw s (c .br) i
-    by NoPrediction = unpackNopred s c (insignificant sig c z g) i
-    by Vertical = unpackVertical s c (insignificant sig c z g) (heldM (above p g cells)) (heldT (above p g cells)) i
+unfoldable pub unpack : Mode → List ℕ → List ℕ → Coding → Place → ℕ → ℕ → ℕ → List ℤ → Group
+unpack Raw s sig c p z g i cells = unpackRaw s (c .br) i
+unpack NoPrediction s sig c p z g i cells = unpackNopred s c (insignificant sig c z g) i
+unpack Vertical s sig c p z g i cells = unpackVertical s c (insignificant sig c z g) (heldM (above p g cells)) (heldT (above p g cells)) i
 
 -- ---- the line
 
@@ -82,7 +79,7 @@ stored c to x CutCode = stop (Cut, x .2)
 stored c to x HighCode = stop (High, x .2)
 
 unfoldable pub turn : List ℕ → List ℕ → Coding → Place → ℕ → ℕ → State → Turn State Left
-turn s sig c p z g x = stored c (countCell p g) x (unpack s sig c p z g (x .0) (x .2))
+turn s sig c p z g x = stored c (countCell p g) x (unpack (c .mode) s sig c p z g (x .0) (x .2))
 
 abbrev pub end : State → Left
 end x = (Done (x .0) (x .1), x .2)

@@ -91,7 +91,7 @@ fn group_at(
     i: usize,
 ) -> Group
     requires { ⌜ Ready c p (length (now stretch)) z (length (now cells)) × (4 * g < p .width) ⌝ }
-    ensures { λ r. ⌜ r ≡ unpack (now (stretch .entry)) (now (sig .entry)) c p z g i (now (cells .entry)) ⌝ }
+    ensures { λ r. ⌜ r ≡ unpack (c .mode) (now (stretch .entry)) (now (sig .entry)) c p z g i (now (cells .entry)) ⌝ }
 {
     let mode = c.mode;
     match mode {
