@@ -161,7 +161,7 @@ module _ (s sig : List ℕ) (c : Coding) (p : Place) (i z : ℕ) (cells : List �
       -- where the groups' cells differ, `need` is the sum over what they hold
       pub done-sum : 0 < p .stride → need ≡ total (takes c p l) (groups p)
       done-sum wide =
-          let by = λ (z : ℤ). nibbles c (heldM z) in
+          let by : ℤ → ℕ = λ z. nibbles c (heldM z) in
           done-carries (λ g x. (length (x .2) ≡ length cells) × (x .1 ≡ total (takes c p (x .2)) g))
           (λ g x m next h q f. (
             length-set (x .2) (countCell p g) (packed m (c .t)) ∙ q .0,
