@@ -102,7 +102,7 @@ module _ (s sig : List ℕ) (c : Coding) (p : Place) (i z : ℕ) (cells : List �
       → ((g : ℕ) (x : State) → g < groups p → P g x → Q (Cut, x .2) × Q (High, x .2))
       → ((g : ℕ) (x : State) (m next : ℕ) → g < groups p → P g x → Sound s (x .0) (Count m next) → P (g + 1) (next, x .1 + nibbles c m, set (x .2) (countCell p g) (packed m (c .t))))
       → P 0 (i, 0, cells) → Q (lineCounts s sig c p i z cells)
-  unfolding turn
+  unfolding turn lineCounts
   line-carries P Q at-end at-stop each first =
       run-carries P Q (turn s sig c p z) end (groups p) at-end
       (λ g x h k. by-group g x h k (unpack (c .mode) s sig c p z g (x .0) (x .2)) (unpack-sound s (x .0) (c .mode) sig c p z g (x .2)))

@@ -3,3 +3,4 @@ pub mod Codes
 pub mod Groups
 pub mod Lines
 pub mod Laws
+pub mod Examples
