@@ -4,7 +4,7 @@ use mathlib.Core.Path.{_≡_, refl, sym, ap, _∙_}
 use mathlib.Core.Logic.{_⊎_, inl, inr, ⊎-elim}
 use mathlib.Core.List.{List}
 use native.Mathlib.Omega.{arith}
-use native.Mathlib.Nat.{add-zero, zero-add, add-suc, suc-add, sub-zero, pow-suc}
+use native.Mathlib.Nat.{add-zero, zero-add, suc-add, sub-zero, pow-suc}
 use native.Mathlib.Numerals.{add-one}
 use native.Mathlib.Decide.{decLe}
 use borrow.Author.Tests.{lt-ltb, le-ltb, eq-eqb, ne-eqb}
@@ -172,11 +172,11 @@ module _ (r t n : ℕ) where
 
   pub vlc-even : n ≤ 2 * (r - t) → (n % 2 ≡ 1 → ⊥) → pos r +ℤ vlc r t n ≡ pos (r + n / 2)
   unfolding vlc
-  vlc-even h o = ⊎-elim some none (bit-is-0 n)
+  vlc-even h o = ⊎-elim some none (either n)
     where
-      bit-is-0 : (n : ℕ) → (0 < n) ⊎ (n ≡ 0)
-      bit-is-0 zero = inr refl
-      bit-is-0 (suc n) = inl (omega arith)
+      either : (n : ℕ) → (0 < n) ⊎ (n ≡ 0)
+      either zero = inr refl
+      either (suc n) = inl (omega arith)
 
       some : 0 < n → pos r +ℤ vlc r t n ≡ pos (r + n / 2)
       some p = rw (le-ltb _ _ h, lt-ltb _ _ p, ne-eqb _ _ o)

@@ -1,5 +1,5 @@
 -- What a line of counts leaves, for the layers above. Assumes nothing.
-use Prim.Native.Nat.{ℕ, zero, suc, _+_, _-_, _*_, _/_, _%_, _^_, _≤_, _<_, max}
+use Prim.Native.Nat.{ℕ, zero, suc, _+_, _*_, _≤_, _<_, max}
 use mathlib.Core.Path.{_≡_, refl, sym, ap, _∙_}
 use mathlib.Core.Bool.{Bool, true, false}
 use mathlib.Core.List.{List}
@@ -9,7 +9,7 @@ use native.Mathlib.Numerals.{add-one}
 use borrow.Author.Tests.{eqb-true, eqb-false}
 use lib.Dec.{eqb}
 use lib.IntN.{ℤ, pos}
-use lib.ListN.{length, getD, set, length-set}
+use lib.ListN.{length, set, length-set}
 use lib.Seq.{getD-set-same, getD-set-other}
 use Rattle.loops.specs.Run.{Turn, go, stop, then, run}
 use Rattle.loops.proofs.Laws.{Kept}
@@ -19,9 +19,8 @@ use Rattle.counts.specs.declared.group.Coding.{Coding}
 use Rattle.counts.specs.declared.group.Group.{Group}
 use Rattle.counts.specs.declared.group.Group.the-variants.{Count, Cut as CutCode, High as HighCode}
 use Rattle.counts.specs.declared.Place.{Place}
-use Rattle.counts.specs.declared.Line.{Line}
 use Rattle.counts.specs.declared.Line.the-variants.{Done, Cut, High}
-use Rattle.counts.proofs.Lines.{Sound, unpack-sound, nibbles-few}
+use Rattle.counts.proofs.Lines.{Sound, unpack-sound, nibbles-few, cell-inside}
 
 -- ---- loops: what holds after g turns, carried from turn to turn to the end
 pub run-carries : {S R : Type 0} (P : ℕ → S → Type 0) (Q : R → Type 0) (turn : ℕ → S → Turn S R) (end : S → R) (n : ℕ)
@@ -135,25 +134,28 @@ module _ (s sig : List ℕ) (c : Coding) (p : Place) (i z : ℕ) (cells : List �
         → P 0 (i, 0, cells) → P (groups p) (next, need, l)
     done-carries P each first = rw e at (line-carries P (OnDone (P (groups p))) (λ x h. h) (λ g x h k. (tt, tt)) each first)
 
-    -- the next bit is not before the first and, if it is past it, in the stretch
-    pub done-next : (i ≤ next) × (next ≤ max i (8 * length s))
-    done-next =
+    between : (i ≤ next) × (next ≤ max i (8 * length s))
+    between =
         done-carries (λ g x. (i ≤ x .0) × (x .0 ≤ max i (8 * length s))) (λ g x m next h k f. omega (arith, k .0, k .1, f .1, f .2)) (omega arith, omega arith)
+
+    -- the next bit is not before the first, and no code goes past the stretch's end
+    pub done-from : i ≤ next
+    done-from = between .0
+
+    pub done-to : i ≤ 8 * length s → next ≤ 8 * length s
+    done-to h = omega (arith, between .1)
 
     pub done-need : need ≤ 32 * groups p
     done-need = done-carries (λ g x. x .1 ≤ 32 * g) (λ g x m next h k f. omega (arith, k, nibbles-few c m (f .0))) (omega arith)
 
     module _ {bytes : ℕ} (ready : Ready c p bytes z (length cells)) where
-      inside : (g : ℕ) → g < groups p → countCell p g < length cells
-      inside g h = ready .inside (4 * g) (omega arith)
-
       -- every group's cell holds a count with T
       pub done-holds : (g : ℕ) → g < groups p → Holds (c .t) (cell l (countCell p g))
       done-holds =
           done-carries (λ g x. (length (x .2) ≡ length cells) × ((k : ℕ) → k < g → Holds (c .t) (cell (x .2) (countCell p k))))
           (λ g x m next h q f. (
             length-set (x .2) (countCell p g) (packed m (c .t)) ∙ q .0,
-            λ k d. holds-set (x .2) (countCell p g) (countCell p k) m (c .t) (omega (arith, q .0, inside g h)) (f .0)
+            λ k d. holds-set (x .2) (countCell p g) (countCell p k) m (c .t) (omega (arith, q .0, cell-inside g ready h)) (f .0)
                 (λ other. q .1 k (before k g d (λ same. other (ap (countCell p) same)))),
           ))
           (refl, λ k d. absurd (omega arith)) .1
@@ -168,6 +170,6 @@ module _ (s sig : List ℕ) (c : Coding) (p : Place) (i z : ℕ) (cells : List �
             total-more _ _ g (x .1) (nibbles c m) (q .1)
                 (λ k d. ap by (sym (getD-set-other (x .2) (countCell p g) (countCell p k) (packed m (c .t)) (pos 0) (apart p k g wide d))))
                 (ap (nibbles c) (sym (held-m m (c .t) (f .0)))
-                ∙ ap by (sym (getD-set-same (x .2) (countCell p g) (packed m (c .t)) (pos 0) (omega (arith, q .0, inside g h))))),
+                ∙ ap by (sym (getD-set-same (x .2) (countCell p g) (packed m (c .t)) (pos 0) (omega (arith, q .0, cell-inside g ready h))))),
           ))
           (refl, total-none _) .1

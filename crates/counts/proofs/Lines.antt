@@ -6,18 +6,17 @@ use mathlib.Core.List.{List}
 use native.Mathlib.Omega.{arith}
 use borrow.Author.Tests.{leb-true, leb-false}
 use lib.Dec.{leb, ltb}
-use lib.IntN.{ℤ, pos, negsuc, _+ℤ_, _-ℤ_}
+use lib.IntN.{ℤ, pos, negsuc, _+ℤ_}
 use lib.ListN.{length, set}
 use lib.Signed.{mag}
 use mir.Syntax.{w64}
 use mir.Val.{toZ, ofZ}
 use Rattle.whole.specs.Cells.{cell}
-use Rattle.whole.proofs.Linear.{up}
 use Rattle.whole.proofs.Machine.{back64}
-use Rattle.loops.specs.Run.{Turn, go}
+use Rattle.loops.specs.Run.{go}
 use Rattle.counts.specs.Codes.{ones, vlc}
 use Rattle.counts.specs.Groups.{counted, coded, unpackVertical}
-use Rattle.counts.specs.Lines.{State, Left, unpack, stored, turn, countCell, insignificant, heldM, heldT, above, packed, nibbles, Ready}
+use Rattle.counts.specs.Lines.{unpack, stored, turn, countCell, insignificant, heldM, heldT, above, held, packed, groups, nibbles, Ready}
 use Rattle.counts.specs.declared.group.Coding.{Coding}
 use Rattle.counts.specs.declared.group.Mode.{Mode}
 use Rattle.counts.specs.declared.group.Mode.the-variants.{Raw, NoPrediction, Vertical}
@@ -62,11 +61,11 @@ module _ (s : List ℕ) (i : ℕ) where
 -- ---- vertical prediction, as the code reads the cell above
 module _ (s sig : List ℕ) (c : Coding) (p : Place) (z g i : ℕ) (cells : List ℤ) {r : Group} {skip : Bool} {j h : ℕ} where
   pub vertical-is : c .mode ≡ Vertical → skip ≡ insignificant sig c z g → j ≡ countCell p g
-      → mag (cell cells (j - p .up)) < 2 ^ 63 → h ≡ up (toZ w64 (ofZ w64 (cell cells (j - p .up))))
+      → mag (cell cells (j - p .up)) < 2 ^ 63 → h ≡ held (toZ w64 (ofZ w64 (cell cells (j - p .up))))
       → r ≡ unpackVertical s c skip (h % 32) (h / 32 % 32) i → r ≡ unpack (c .mode) s sig c p z g i cells
   unfolding unpack
   vertical-is v k e b f q =
-      let same : h ≡ up (above p g cells) = f ∙ ap up (back64 (cell cells (j - p .up)) b) ∙ ap (λ (j : ℕ). up (cell cells (j - p .up))) e in
+      let same : h ≡ held (above p g cells) = f ∙ ap held (back64 (cell cells (j - p .up)) b) ∙ ap (λ (j : ℕ). held (cell cells (j - p .up))) e in
       rw v
       (q ∙ ap (λ (h : ℕ). unpackVertical s c skip (h % 32) (h / 32 % 32) i) same
       ∙ ap (λ (b : Bool). unpackVertical s c b (heldM (above p g cells)) (heldT (above p g cells)) i) k)
@@ -93,6 +92,12 @@ nibbles-few c m h = cond-by (λ (r : ℕ). r ≤ 32) (ltb (c .t) m) (λ e. omega
     sign true = omega arith
     sign false = omega arith
 
--- ---- what a store keeps
+-- ---- the cells
+
+-- a group's cell is one of them
+pub cell-inside : {c : Coding} {p : Place} {bytes z n : ℕ} (g : ℕ) → Ready c p bytes z n → g < groups p → countCell p g < n
+cell-inside g h l = h .inside (4 * g) (omega arith)
+
+-- what a store keeps
 pub ready-still : {c : Coding} {p : Place} {bytes z n k : ℕ} → Ready c p bytes z n → k ≡ n → Ready c p bytes z k
 ready-still h e = rw e h

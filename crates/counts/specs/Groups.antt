@@ -12,7 +12,7 @@ use Rattle.counts.specs.declared.group.Coding.{Coding}
 use Rattle.counts.specs.declared.group.Group.{Group}
 use Rattle.counts.specs.declared.group.Group.the-variants.{Count, Cut, High}
 
--- a count is 0 to 31, whatever Br is; any other is refused
+-- M is 0 to 31, whatever Br is; any other is refused. The next code stands from bit `next` on
 unfoldable pub counted : ℤ → ℕ → Group
 counted (pos m) next = cond (leb m 31) (Count m next) High
 counted (negsuc m) next = High
@@ -32,9 +32,12 @@ coded s br mtop t i =
 abbrev pub unpackRaw : List ℕ → ℕ → ℕ → Group
 unpackRaw s br i = cond (leb (i + br) (8 * length s)) (counted (pos (field s i br)) (i + br)) Cut
 
--- Table C.16: mtop is T, and Δm is 0 for a group that is insignificant
+-- Table C.16: mtop is T. Of a group that is insignificant, Δm is 0
 abbrev pub unpackNopred : List ℕ → Coding → Bool → ℕ → Group
-unpackNopred s c insignificant i = cond insignificant (counted (pos (c .t) +ℤ pos 0) i) (coded s (c .br) (c .t) (c .t) i)
+unpackNopred s c insignificant i =
+    let mtop = c .t in
+    let Δm = pos 0 in
+    cond insignificant (counted (pos mtop +ℤ Δm) i) (coded s (c .br) mtop (c .t) i)
 
 -- Table C.15, with M and T of the line above. Of a group that is insignificant, Δm is 0 where Rm = 0 and T − mtop where Rm = 1
 abbrev pub unpackVertical : List ℕ → Coding → Bool → ℕ → ℕ → ℕ → Group

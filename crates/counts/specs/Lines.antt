@@ -27,18 +27,21 @@ use Rattle.counts.specs.declared.Line.the-variants.{Done, Cut, High}
 abbrev pub packed : ℕ → ℕ → ℤ
 packed m t = pos (m + 32 * t)
 
--- M and T of a cell, whatever it holds
+-- M and T of a cell are read whatever stands in it: a negative number is read as 0
+abbrev pub held : ℤ → ℕ
+held z = up z
+
 abbrev pub heldM : ℤ → ℕ
-heldM z = up z % 32
+heldM z = held z % 32
 
 abbrev pub heldT : ℤ → ℕ
-heldT z = up z / 32 % 32
+heldT z = held z / 32 % 32
 
 -- B.8: the code groups of a line, of Ng = 4 coefficients each
 abbrev pub groups : Place → ℕ
 groups p = ceilDiv (p .width) 4
 
--- the count cell of code group g stands behind its first coefficient
+-- the count cell of code group g stands `area` cells behind its first coefficient
 abbrev pub countCell : Place → ℕ → ℕ
 countCell p g = p .first + 4 * g * p .stride + p .area
 
@@ -78,13 +81,14 @@ stored c to x (Count m next) = go (next, x .1 + nibbles c m, set (x .2) to (pack
 stored c to x CutCode = stop (Cut, x .2)
 stored c to x HighCode = stop (High, x .2)
 
+-- the turn of group g
 unfoldable pub turn : List ℕ → List ℕ → Coding → Place → ℕ → ℕ → State → Turn State Left
 turn s sig c p z g x = stored c (countCell p g) x (unpack (c .mode) s sig c p z g (x .0) (x .2))
 
 abbrev pub end : State → Left
 end x = (Done (x .0) (x .1), x .2)
 
--- the line's groups from bit i of the stretch on
+-- Table C.8's loop over the line's groups, whose codes stand in the stretch s from bit i on
 unfoldable pub lineCounts : List ℕ → List ℕ → Coding → Place → ℕ → ℕ → List ℤ → Left
 lineCounts s sig c p i z cells = run (turn s sig c p z) end (groups p) 0 (i, 0, cells)
 

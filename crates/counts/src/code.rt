@@ -38,8 +38,8 @@ pub fn ones_from(s: &[u8], at: usize, limit: usize) -> usize
     limit
 }
 
-// θ = max(r - t, 0)
-fn theta(r: usize, t: usize) -> usize
+// max(r - t, 0): up to twice as many 1-bits are signed quantities, more are unary.
+fn threshold(r: usize, t: usize) -> usize
     ensures { λ x. ⌜ x ≡ r - t ⌝ }
 {
     if t < r { r - t } else { 0 }
@@ -50,7 +50,7 @@ pub fn moved(r: usize, t: usize, n: usize) -> usize
     requires { ⌜ (r < 2 ^ 32) × (n < 2 ^ 32) ⌝ }
     ensures { λ m. ⌜ pos m ≡ pos r +ℤ vlc r t n ⌝ }
 {
-    let theta = theta(r, t);
+    let theta = threshold(r, t);
     if 2 * theta < n {
         r + (n - theta)
     } else if n % 2 == 1 {

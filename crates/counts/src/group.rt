@@ -29,6 +29,7 @@ pub enum Group {
     High,
 }
 
+// A count m, if it is one.
 fn in_range(m: usize, next: usize) -> Group
     ensures { λ r. ⌜ r ≡ counted (pos m) next ⌝ }
 {
@@ -94,6 +95,7 @@ pub fn read_nopred(s: &[u8], c: Coding, insignificant: bool, i: usize) -> Group
     }
 }
 
+// The larger of two numbers.
 fn larger(a: usize, b: usize) -> usize
     ensures { λ r. ⌜ r ≡ max a b ⌝ }
 {

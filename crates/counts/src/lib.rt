@@ -8,8 +8,7 @@ use crate::group::Mode;
 ghost use mathlib.Core.Path.{_≡_};
 ghost use Prim.Native.Nat.{_+_, _*_, _/_, _%_, _^_, _≤_, _<_};
 ghost use lib.ListN.{length};
-ghost use Rattle.whole.proofs.Linear.{up};
-ghost use Rattle.counts.specs.Lines.{packed, countCell, insignificant, unpack, Nibbles, lineCounts, Ready};
+ghost use Rattle.counts.specs.Lines.{held, packed, groups, countCell, insignificant, unpack, Nibbles, lineCounts, Ready};
 
 // Where the cells of a line lie: coefficient x at `first` + x `stride`, for x below `width`, its count `area` cells behind it, and the
 // same coefficient one line up `up` cells before it.
@@ -29,9 +28,9 @@ pub enum Line {
     High,
 }
 
-// What a count cell holds.
+// What a count cell holds, where it is not negative.
 fn held(z: i64) -> usize
-    ensures { λ r. ⌜ r ≡ up z ⌝ }
+    ensures { λ r. ⌜ r ≡ held z ⌝ }
 {
     if z < 0 { 0 } else { z as usize }
 }
@@ -90,7 +89,7 @@ fn group_at(
     g: usize,
     i: usize,
 ) -> Group
-    requires { ⌜ Ready c p (length (now stretch)) z (length (now cells)) × (4 * g < p .width) ⌝ }
+    requires { ⌜ Ready c p (length (now stretch)) z (length (now cells)) × (g < groups p) ⌝ }
     ensures { λ r. ⌜ r ≡ unpack (c .mode) (now (stretch .entry)) (now (sig .entry)) c p z g i (now (cells .entry)) ⌝ }
 {
     let mode = c.mode;

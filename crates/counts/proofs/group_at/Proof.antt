@@ -1,19 +1,17 @@
 -- `counts::group_at` meets its contract: each arm is a case of Table C.8. Assumes nothing.
-use Prim.Native.Nat.{_*_, _<_, _≤_}
-use mathlib.Core.Path.{_≡_, sym, _∙_}
+use Prim.Native.Nat.{_<_, _≤_}
 use native.Mathlib.Omega.{arith}
 use borrow.Author.Needs.{needs}
 use lib.ListN.{length}
 use denote.Ref.{now}
-use Rattle.whole.proofs.Machine.{back64}
 use Rattle.counts.specs.Lines.{countCell, unpack}
-use Rattle.counts.proofs.Lines.{vertical-is}
+use Rattle.counts.proofs.Lines.{vertical-is, cell-inside}
 use Rattle.counts.proofs.group_at.Statement.{statement}
 use Rattle.counts.proofs.group_at.Tie as tie
 
 -- the group's cell
 inside : (c : tie.Start) → countCell (c .args .p) (c .args .g) < length (now (c .args .cells))
-inside c = c .pre .0 .inside (4 * c .args .g) (c .pre .1)
+inside c = cell-inside (c .args .g) (c .pre .0) (c .pre .1)
 
 count-cell-requires : tie.Need-count-cell-requires
 count-cell-requires c κs = omega (arith, inside (c .before .before .before .before))
@@ -43,21 +41,8 @@ returns-3 : tie.Need-returns-3
 returns-3 c =
     let h = c .before .before in
     let k = h .before .before .before in
-    vertical-is
-    _
-    _
-    _
-    _
-    _
-    _
-    _
-    _
-    (k .before .enum-told3 .given .1)
-    (c .before .is-insignificant2 .ensures)
-    (k .count-cell .ensures)
-    (h .before .held-arg .given)
-    (h .held .ensures)
-    (c .read-vertical .ensures)
+    vertical-is _ _ _ _ _ _ _ _ (k .before .enum-told3 .given .1) (c .before .is-insignificant2 .ensures)
+    (k .count-cell .ensures) (h .before .held-arg .given) (h .held .ensures) (c .read-vertical .ensures)
 
 pub group-at-spec : {M : Type 1} → statement M
 group-at-spec =

@@ -1,6 +1,5 @@
 -- `counts::group_nibbles` meets its contract. Assumes nothing.
 use native.Mathlib.Omega.{arith}
-use native.Mathlib.Nat.{add-zero}
 use borrow.Author.Needs.{needs}
 use borrow.Author.Tests.{lt-ltb, le-ltb}
 use Rattle.counts.proofs.group_nibbles.Statement.{statement}

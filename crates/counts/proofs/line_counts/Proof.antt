@@ -1,13 +1,13 @@
--- `counts::line_counts` meets its contract. Assumes nothing.
+-- `counts::line_counts` meets its contract. Invariant: the groups that are left leave what the whole line leaves. Assumes nothing.
 use Prim.Native.Nat.{_≤_, _<_, _-_, _*_}
-use mathlib.Core.Path.{_≡_, _∙_, sym}
+use mathlib.Core.Path.{_≡_}
 use native.Mathlib.Omega.{arith}
 use borrow.Author.Needs.{needs}
 use lib.ListN.{length, length-set}
 use denote.Ref.{now}
 use Rattle.loops.proofs.Laws.{Going, begins, goes-on, stops, ends}
 use Rattle.counts.specs.Lines.{countCell, turn, end, lineCounts}
-use Rattle.counts.proofs.Lines.{turn-is, turn-counts, count-sound, ready-still}
+use Rattle.counts.proofs.Lines.{turn-is, turn-counts, count-sound, cell-inside, ready-still}
 use Rattle.counts.proofs.line_counts.Statement.{statement}
 use Rattle.counts.proofs.line_counts.Tie as tie
 
@@ -26,14 +26,14 @@ loop-holds c = (search needs, search needs, search needs, begins)
 inside : (c : tie.In-loop Inv-loop μ-loop) →
     let start = c .before .before .before .before .before in
     countCell (start .args .place) (c .before .loop .g) < length (now (start .args .cells))
-inside c = c .before .before .before .before .before .pre .inside (4 * c .before .loop .g) (omega arith)
+inside c = cell-inside (c .before .loop .g) (c .before .before .before .before .before .pre) (c .loop-test .taken)
 
 -- the count that was read
 small : (c : tie.After-m Inv-loop μ-loop) → c .m .given .0 .0 ≤ 31
 small c = count-sound _ _ _ _ _ _ _ _ (c .before .before .group-at .ensures) (c .m .given .1) .0
 
 group-at-requires : tie.Need-group-at-requires Inv-loop μ-loop
-group-at-requires c κs = (ready-still (c .before .before .before .before .before .before .pre) (c .before .before .loop .inv .1), omega arith)
+group-at-requires c κs = (ready-still (c .before .before .before .before .before .before .pre) (c .before .before .loop .inv .1), c .before .loop-test .taken)
 
 to-hold-requires : tie.Need-to-hold-requires Inv-loop μ-loop
 to-hold-requires c κs = (small (c .before), c .before .before .before .before .before .before .before .before .before .before .pre .t)

@@ -7,7 +7,7 @@ use Rattle.counts.proofs.code.moved.Statement.{statement}
 use Rattle.counts.proofs.code.moved.Tie as tie
 
 returns : tie.Need-returns
-returns c = rw (c .before .theta .ensures) (sym (vlc-unary _ _ _ (omega arith)))
+returns c = rw (c .before .threshold .ensures) (sym (vlc-unary _ _ _ (omega arith)))
 
 returns-2 : tie.Need-returns-2
 returns-2 c = sym (vlc-odd _ _ _ (omega arith) (c .if2 .taken))
