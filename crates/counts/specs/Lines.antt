@@ -45,11 +45,19 @@ groups p = ceilDiv (p .width) 4
 abbrev pub countCell : Place → ℕ → ℕ
 countCell p g = p .first + 4 * g * p .stride + p .area
 
--- ---- a group in its place
+-- ---- significance, one flag Z for Ss = 8 code groups
 
--- Tables C.15 and C.16: (D & 2) == 0 || Z[⌊g / Ss⌋] == 0 says that the Δm of group g is coded, with Ss = 8. The line's Z stand from bit z on
+-- Table C.6, B.9: the flags of a line, where Dr == 0 and D & 2
+abbrev pub flagsIn : Mode → Coding → Place → ℕ
+flagsIn Raw c p = 0
+flagsIn NoPrediction c p = cond (c .flags) (ceilDiv (groups p) 8) 0
+flagsIn Vertical c p = cond (c .flags) (ceilDiv (groups p) 8) 0
+
+-- Tables C.15 and C.16: (D & 2) == 0 || Z[⌊g / Ss⌋] == 0 says that the Δm of group g is coded. The line's flags stand from bit z on
 abbrev pub insignificant : List ℕ → Coding → ℕ → ℕ → Bool
 insignificant sig c z g = c .flags && eqb (bitAt sig (z + g / 8)) 1
+
+-- ---- a group in its place
 
 -- Table C.13: the predictors are M and T of the same group one line up
 abbrev pub above : Place → ℕ → List ℤ → ℤ
@@ -109,8 +117,11 @@ pub record Nibbles (c : Coding) (m r : ℕ) : Type 0 where
 pub record Ready (c : Coding) (p : Place) (bytes z n : ℕ) : Type 0 where
   pub br : c .br ≤ 5
   pub t : c .t ≤ 31
+  -- offsets in bits fit a word
   pub short : bytes < 2 ^ 56
   pub narrow : p .width < 2 ^ 56
   pub near : z < 2 ^ 60
+  -- every coefficient's count cell, and so its own, is one of the n
   pub inside : (x : ℕ) → x < p .width → p .first + x * p .stride + p .area < n
+  -- there is a line above
   pub above : c .mode ≡ Vertical → p .up ≤ p .first

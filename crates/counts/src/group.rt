@@ -3,13 +3,28 @@ ghost use mathlib.Core.Path.{_≡_};
 ghost use Prim.Native.Nat.{_+_, _*_, _^_, _≤_, _<_, max};
 ghost use lib.IntN.{pos};
 ghost use lib.ListN.{length};
-ghost use Rattle.counts.specs.Groups.{counted, coded, unpackRaw, unpackNopred, unpackVertical, Limit};
+ghost use Rattle.counts.specs.Groups.{modeOf, counted, coded, unpackRaw, unpackNopred, unpackVertical, Limit};
 
-// Table C.8: Dr[p,s] = 1; else D[p,b] & 1.
+// The bitplane count coding modes.
 pub enum Mode {
     Raw,
     NoPrediction,
     Vertical,
+}
+
+impl Mode {
+    // The mode of a packet with the raw flag Dr[p,s] in a band with the coding mode D[p,b].
+    pub fn chosen(dr: usize, d: usize) -> Self
+        ensures { λ r. ⌜ r ≡ modeOf dr d ⌝ }
+    {
+        if dr == 1 {
+            Mode::Raw
+        } else if d % 2 == 0 {
+            Mode::NoPrediction
+        } else {
+            Mode::Vertical
+        }
+    }
 }
 
 // How the counts of a line are coded: `flags` where D[p,b] & 2, `run` where Rm = 1, `signs` where Fs = 0, T[p,b] and Br.

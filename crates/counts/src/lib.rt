@@ -8,7 +8,7 @@ use crate::group::Mode;
 ghost use mathlib.Core.Path.{_≡_};
 ghost use Prim.Native.Nat.{_+_, _*_, _/_, _%_, _^_, _≤_, _<_};
 ghost use lib.ListN.{length};
-ghost use Rattle.counts.specs.Lines.{held, packed, groups, countCell, insignificant, unpack, Nibbles, lineCounts, Ready};
+ghost use Rattle.counts.specs.Lines.{held, packed, groups, countCell, flagsIn, insignificant, unpack, Nibbles, lineCounts, Ready};
 
 // Where the cells of a line lie: coefficient x at `first` + x `stride`, for x below `width`, its count `area` cells behind it, and the
 // same coefficient one line up `up` cells before it.
@@ -28,7 +28,7 @@ pub enum Line {
     High,
 }
 
-// What a count cell holds, where it is not negative.
+// What a count cell holds; a negative number is read as 0.
 fn held(z: i64) -> usize
     ensures { λ r. ⌜ r ≡ held z ⌝ }
 {
@@ -64,6 +64,23 @@ fn count_cell(p: Place, g: usize) -> usize
     ensures { λ r. ⌜ r ≡ countCell p g ⌝ }
 {
     p.first + 4 * g * p.stride + p.area
+}
+
+// How many significance flags the line has: one for eight code groups, which are 32 coefficients.
+pub fn line_flags(c: Coding, p: Place) -> usize
+    requires { ⌜ p .width < 2 ^ 56 ⌝ }
+    ensures { λ r. ⌜ r ≡ flagsIn (c .mode) c p ⌝ }
+{
+    if c.flags {
+        let mode = c.mode;
+        match mode {
+            Mode::Raw => 0,
+            Mode::NoPrediction => (p.width + 31) / 32,
+            Mode::Vertical => (p.width + 31) / 32,
+        }
+    } else {
+        0
+    }
 }
 
 // Is the code group g in a significance group whose flag is set?
