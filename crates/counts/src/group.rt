@@ -27,7 +27,8 @@ impl Mode {
     }
 }
 
-// How the counts of a line are coded: `flags` where D[p,b] & 2, `run` where Rm = 1, `signs` where Fs = 0, T[p,b] and Br.
+// How the counts of a line are coded: `flags` where D[p,b] & 2, `run` where Rm = 1, T[p,b] and Br. `signs`, where Fs = 0, counts only for the
+// nibbles of data.
 pub struct Coding {
     pub mode: Mode,
     pub flags: bool,
