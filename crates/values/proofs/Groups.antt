@@ -17,12 +17,12 @@ use Rattle.bits.specs.Fields.{bitAt, field, IsField}
 use Rattle.bits.proofs.Laws.{is-field}
 use Rattle.quantiser.specs.Inverse.{coefficientOf, scaled, Carried}
 use Rattle.quantiser.proofs.Laws.{coefficient-zero, scaled-zero}
-use Rattle.values.specs.Group.{planes, signNibbles, nibblesOf, signBits, signBitsOf, v, s, index, value, groupValues, signField, SignBit}
+use Rattle.values.specs.Group.{planes, signNibbles, nibblesOf, signBits, signBitsOf, v, s, index, value, placed, groupValues, signField, SignBit}
 use Rattle.values.specs.declared.Coding.{Coding}
 use Rattle.values.specs.declared.Group.{Group}
 use Rattle.values.specs.declared.Next.{Next}
 use Rattle.values.proofs.Planes.{planes-lt, four-bit}
-use Rattle.values.proofs.Places.{Placing}
+use Rattle.values.proofs.Places.{Placing, placed-same}
 
 -- ---- sign bits
 
@@ -51,6 +51,10 @@ nibbles-le M T fs h = pick (ltb T M)
     pick true = omega (arith, one-or-none fs)
     pick false = omega arith
 
+pub nibbles-none : (M T : ℕ) (fs : Bool) → M ≤ T → nibblesOf M T fs ≡ 0
+unfolding nibblesOf
+nibbles-none M T fs h = rw (le-ltb T M h)
+
 signed-abs : (b : Bool) (n : ℕ) → natAbs (signed b n) ≡ n
 signed-abs true n = size-neg (pos n)
 signed-abs false n = refl
@@ -75,6 +79,18 @@ module _ (dat : List ℕ) (fs : Bool) (M T at : ℕ) where
       pick : (b : Bool) → cond b (signBits (v dat fs M T at) 4) 0 ≤ 4
       pick true = sign-bits-le (v dat fs M T at) 4
       pick false = omega arith
+
+  pub sign-bits-none : M ≤ T → signBitsOf dat fs M T at ≡ 0
+  unfolding signBitsOf signBits
+  sign-bits-none h = pick fs
+    where
+      none : (n : ℕ) → signBits (v dat fs M T at) n ≡ 0
+      none zero = refl
+      none (suc n) = rw (none n, v-none h n)
+
+      pick : (b : Bool) → cond b (signBits (v dat fs M T at) 4) 0 ≡ 0
+      pick true = none 4
+      pick false = refl
 
   module _ (sgn : List ℕ) (sign : ℕ) where
     -- the size of an index
@@ -154,6 +170,11 @@ module _ {dat sgn : List ℕ} {how : Coding} {g : Group} {next : Next} {vs : Lis
   unfolding signBitsOf
   used-all e f = f ∙ rw (e, sign-bits-same (λ k. getD vs k 0) sizes 4 (r .size))
 
+pub value-none : (dat sgn : List ℕ) (how : Coding) (g : Group) (next : Next) → g .m ≤ g .t → (k : ℕ) → value dat sgn how g next k ≡ pos 0
+unfolding value
+value-none dat sgn how g next h k =
+    rw (index-none dat (how .fs) (g .m) (g .t) (next .at) sgn (next .sign) h k, coefficient-zero (how .uniform) (g .m) (g .t), scaled-zero (how .fq))
+
 -- ---- the whole of a group, from its parts
 
 pub group-is : (dat sgn : List ℕ) (how : Coding) (g : Group) (next : Next) {cells₀ cells : List ℤ} {n taken k : ℕ}
@@ -162,3 +183,11 @@ pub group-is : (dat sgn : List ℕ) (how : Coding) (g : Group) (next : Next) {ce
     → groupValues dat sgn how g next cells₀ ≡ (record { at = next .at + n; sign = next .sign + taken }, cells)
 unfolding groupValues
 group-is dat sgn how g next e f p h = rw (e, f, p .same, h)
+
+-- with M ≤ T it takes nothing, and its coefficients are 0
+pub group-none : (dat sgn : List ℕ) (how : Coding) (g : Group) (next : Next) (cells₀ : List ℤ) {cells : List ℤ} → g .m ≤ g .t
+    → cells ≡ placed (g .first) (g .stride) (λ _. pos 0) (g .count) cells₀ → groupValues dat sgn how g next cells₀ ≡ (next, cells)
+unfolding groupValues
+group-none dat sgn how g next cells₀ h e =
+    let z = placed-same (g .first) (g .stride) (value dat sgn how g next) (λ _. pos 0) (g .count) cells₀ (λ k _. value-none dat sgn how g next h k) in
+    rw (nibbles-none (g .m) (g .t) (how .fs) h, sign-bits-none dat (how .fs) (g .m) (g .t) (next .at) h, add-zero (next .at), add-zero (next .sign), z, e)

@@ -2,3 +2,4 @@
 pub mod Planes
 pub mod Places
 pub mod Groups
+pub mod Lines

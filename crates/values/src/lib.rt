@@ -7,7 +7,7 @@ ghost use lib.IntN.{pos};
 ghost use lib.ListN.{length, getD};
 ghost use Rattle.whole.specs.Numbers.{signed};
 ghost use Rattle.values.specs.Group.{CountIs, Magnitudes, SignBit, GroupFit, InCells, nibblesOf, signField, signBits, placed, groupValues};
-ghost use Rattle.values.specs.Line.{Fit, lineValues};
+ghost use Rattle.values.specs.Line.{HasGroup, groupOf, Fit, lineValues};
 
 // Where a line stands in the cells, and its precinct's truncation position in its band. Coefficient x has the cell first + x·stride, and the count
 // cell of a code group stands `area` cells behind that of its first coefficient.
@@ -204,6 +204,23 @@ fn group_values(
     coded_group(dat, sgn, cells, how, group, next)
 }
 
+// Group g of a line.
+fn group_of(cells: &[i64], line: Line, g: usize) -> Group
+    requires { ⌜ HasGroup line g (length (now cells)) ⌝ }
+    ensures { λ r. ⌜ r ≡ groupOf line (now (cells .entry)) g ⌝ }
+{
+    let x = 4 * g;
+    let first = line.first + x * line.stride;
+    let held = first + line.area;
+    Group {
+        first: first,
+        stride: line.stride,
+        count: smaller(4, line.width - x),
+        m: count_in(cells[held]),
+        t: line.t,
+    }
+}
+
 // A line. Bits past the end of a stretch read as 0: whether they are there is judged above.
 pub fn line_values(
     dat: &[u8],
@@ -220,15 +237,7 @@ pub fn line_values(
     let mut next = from;
     let mut g: usize = 0;
     while g < groups {
-        let first = line.first + 4 * g * line.stride;
-        let group = Group {
-            first: first,
-            stride: line.stride,
-            count: smaller(4, line.width - 4 * g),
-            m: count_in(cells[first + line.area]),
-            t: line.t,
-        };
-        next = group_values(dat, sgn, cells, how, group, next);
+        next = group_values(dat, sgn, cells, how, group_of(cells, line, g), next);
         g += 1;
     }
     next
