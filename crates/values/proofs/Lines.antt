@@ -9,8 +9,9 @@ use native.Mathlib.Omega.{arith}
 use lib.IntN.{ℤ, pos}
 use lib.ListN.{length}
 use Rattle.whole.specs.Cells.{cell}
-use Rattle.values.specs.Group.{countIn, nibblesOf, signBitsOf, index, value, placed, groupValues, InCells, GroupFit}
-use Rattle.values.specs.Line.{Fit, HasGroup, groups, groupOf, M, nibbles, nibbleAt, signAt, indexAt, valueAt, lineValues}
+use Rattle.values.specs.Group.{countIn}
+use Rattle.values.specs.Line.{place, countPlace, groups, Fit, M, nibbles, placed, nibbleAt, signAt, indexAt, valueAt, lineValues}
+use Rattle.values.specs.Steps.{GroupFit, value, groupValues, groupOf}
 use Rattle.values.specs.declared.Coding.{Coding}
 use Rattle.values.specs.declared.Line.{Line}
 use Rattle.values.specs.declared.Next.{Next}

@@ -9,7 +9,7 @@ use lib.IntN.{ℤ, pos}
 use lib.ListN.{length, getD, set, length-set}
 use lib.Seq.{getD-set-same, getD-set-other}
 use Rattle.whole.specs.Cells.{cell}
-use Rattle.values.specs.Group.{placed}
+use Rattle.values.specs.Line.{placed}
 
 module _ (first stride : ℕ) where
   pub placed-length : (f : ℕ → ℤ) (n : ℕ) (cells : List ℤ) → length (placed first stride f n cells) ≡ length cells
