@@ -3,3 +3,4 @@ pub mod Planes
 pub mod Places
 pub mod Groups
 pub mod Lines
+pub mod Laws
