@@ -1,16 +1,13 @@
 -- Two lines worked by hand from Tables C.9 and C.10: six coefficients in two groups, so that two are padding, of 2 planes and of 1. Assumes nothing.
-use mathlib.Core.Bool.{Bool, true, false}
+use mathlib.Core.Bool.{true, false}
 use mathlib.Core.List.{List, [], _∷_}
 use mathlib.Core.Path.{_≡_, refl}
-use Prim.Native.Nat.{ℕ}
 use lib.IntN.{ℤ, pos, negsuc}
 use Rattle.bits.specs.Fields.{bitAt}
 use Rattle.quantiser.specs.Inverse.{deadzone, terms, series, uniform, inverse, coefficientOf, scaled}
 use Rattle.values.specs.Group.{countIn, planes, nibblesOf, signBits, v, signBitsOf, s, index}
 use Rattle.values.specs.Line.{M, nibbles, placed, nibbleAt, signAt, indexAt, valueAt, lineValues}
-use Rattle.values.specs.declared.Coding.{Coding}
 use Rattle.values.specs.declared.Line.{Line}
-use Rattle.values.specs.declared.Next.{Next}
 
 -- every other cell of a row, with its count cells a row of 12 behind: M 3 and M 2 with T 1
 line : Line

@@ -1,7 +1,7 @@
 -- A group as the code reads it: the sizes, the sign bits and the coefficients. Assumes nothing.
 use mathlib.Core.Bool.{Bool, true, false, cond}
 use mathlib.Core.List.{List}
-use mathlib.Core.Path.{_≡_, refl, sym, ap, ap₂, _∙_}
+use mathlib.Core.Path.{_≡_, refl, ap, ap₂, _∙_}
 use Prim.Native.Nat.{ℕ, zero, suc, _+_, _-_, _*_, _/_, _%_, _^_, _≤_, _<_}
 use native.Mathlib.Numerals.{add-one}
 use native.Mathlib.Nat.{lt-of-lt-of-le, add-zero, sub-eq-zero-of-le}
@@ -13,7 +13,7 @@ use lib.ListN.{getD}
 use lib.Pow.{pow-mono}
 use Rattle.whole.specs.Numbers.{signed}
 use Rattle.whole.proofs.Machine.{size-neg}
-use Rattle.bits.specs.Fields.{bitAt, field, IsField}
+use Rattle.bits.specs.Fields.{bitAt}
 use Rattle.bits.proofs.Laws.{is-field}
 use Rattle.quantiser.specs.Inverse.{coefficientOf, scaled, Carried}
 use Rattle.quantiser.proofs.Laws.{coefficient-zero, scaled-zero}

@@ -1,15 +1,15 @@
 -- What the layers above use of a line. Assumes nothing.
-use mathlib.Core.Bool.{Bool, true, false, cond}
+use mathlib.Core.Bool.{Bool, false}
 use mathlib.Core.List.{List}
-use mathlib.Core.Path.{_≡_, refl, sym, ap, ap₂, _∙_}
+use mathlib.Core.Path.{_≡_, refl, sym, ap, _∙_}
 use Prim.Native.Nat.{ℕ, zero, suc, _+_, _-_, _*_, _/_, _%_, _^_, _≤_, _<_}
 use native.Mathlib.Omega.{arith}
-use lib.IntN.{ℤ, pos, natAbs}
+use lib.IntN.{ℤ, natAbs}
 use lib.ListN.{length}
 use Rattle.whole.specs.Cells.{cell}
 use Rattle.quantiser.specs.Inverse.{coefficientOf, scaled, Carried}
 use Rattle.quantiser.proofs.Laws.{carried-scaled}
-use Rattle.values.specs.Group.{countIn, nibblesOf, signBitsOf}
+use Rattle.values.specs.Group.{countIn}
 use Rattle.values.specs.Line.{place, countPlace, groups, Fit, M, nibbles, placed, nibbleAt, signAt, indexAt, valueAt, lineValues}
 use Rattle.values.specs.declared.Coding.{Coding}
 use Rattle.values.specs.declared.Line.{Line}

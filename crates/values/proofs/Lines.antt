@@ -1,12 +1,12 @@
 -- A line, group after group. Assumes nothing.
 use mathlib.Core.Bool.{Bool, false}
 use mathlib.Core.List.{List}
-use mathlib.Core.Path.{_≡_, refl, sym, ap, ap₂, _∙_}
-use Prim.Native.Nat.{ℕ, zero, suc, _+_, _-_, _*_, _/_, _%_, _^_, _≤_, _<_, min}
+use mathlib.Core.Path.{_≡_, refl, sym, ap, _∙_}
+use Prim.Native.Nat.{ℕ, zero, suc, _+_, _-_, _*_, _/_, _%_, _≤_, _<_, min}
 use native.Mathlib.Numerals.{add-one}
 use native.Mathlib.Nat.{add-mul, add-zero, add-assoc}
 use native.Mathlib.Omega.{arith}
-use lib.IntN.{ℤ, pos}
+use lib.IntN.{ℤ}
 use lib.ListN.{length}
 use Rattle.whole.specs.Cells.{cell}
 use Rattle.values.specs.Group.{countIn, signBitsOf}
@@ -27,7 +27,7 @@ count-le z = omega arith
 module _ (l : Line) (cells : List ℤ) where
   pub M-le : (g : ℕ) → M l cells g ≤ 31
   unfolding M
-  M-le g = count-le (cell cells (l .first + 4 * g * l .stride + l .area))
+  M-le g = count-le (cell cells (countPlace l g))
 
   pub nibbles-most : (fs : Bool) (g : ℕ) → nibbles l cells fs g ≤ 32 * g
   unfolding nibbles
@@ -77,8 +77,8 @@ module _ (dat sgn : List ℕ) (how : Coding) (l : Line) (from : Next) (cells₀ 
     unfolding M
     same-count =
         ap countIn
-        (ap (λ (c : List ℤ). cell c (l .first + 4 * g * l .stride + l .area)) (r .written .same)
-        ∙ placed-other (l .first) (l .stride) (valueAt dat sgn how l from cells₀) (min (4 * g) (l .width)) cells₀ (l .first + 4 * g * l .stride + l .area)
+        (ap (λ (c : List ℤ). cell c (countPlace l g)) (r .written .same)
+        ∙ placed-other (l .first) (l .stride) (valueAt dat sgn how l from cells₀) (min (4 * g) (l .width)) cells₀ (countPlace l g)
         (λ x h e. omega (arith, fit .apart x (omega arith))))
 
     value-same : (k : ℕ) → k < 4 → valueAt dat sgn how l from cells₀ (4 * g + k) ≡ value dat sgn how (groupOf l cells g) next k
@@ -110,8 +110,8 @@ module _ (dat sgn : List ℕ) (how : Coding) (l : Line) (from : Next) (cells₀ 
           sign = sym (ap (λ (x : Next × List ℤ). x .0 .sign) e) ∙ rw (add-one g, same-count, r .sign, r .at);
           written = rw all (placing
               (sym (ap (λ (x : Next × List ℤ). x .1) e)
-              ∙ sym (placed-same (l .first + 4 * g * l .stride) (l .stride) (λ k. f (4 * g + k)) (value dat sgn how (groupOf l cells g) next) (min 4 (l .width - 4 * g)) cells (λ k h. value-same k (omega arith)))
-              ∙ ap (placed (l .first + 4 * g * l .stride) (l .stride) (λ k. f (4 * g + k)) (min 4 (l .width - 4 * g))) (rw done at (r .written .same))
+              ∙ sym (placed-same (place l (4 * g)) (l .stride) (λ k. f (4 * g + k)) (value dat sgn how (groupOf l cells g) next) (min 4 (l .width - 4 * g)) cells (λ k h. value-same k (omega arith)))
+              ∙ ap (placed (place l (4 * g)) (l .stride) (λ k. f (4 * g + k)) (min 4 (l .width - 4 * g))) (rw done at (r .written .same))
               ∙ sym (placed-join (l .first) (l .stride) f (4 * g) (min 4 (l .width - 4 * g)) cells₀)));
         }
 

@@ -1,5 +1,5 @@
 -- The bitplanes of a group, from the first on as the code reads them, and the bits of a nibble. Assumes nothing.
-use mathlib.Core.Path.{_≡_, refl, sym, ap, _∙_}
+use mathlib.Core.Path.{_≡_, refl, _∙_}
 use mathlib.Core.List.{List}
 use Prim.Native.Nat.{ℕ, zero, suc, _+_, _-_, _*_, _/_, _%_, _^_, _≤_, _<_}
 use native.Mathlib.Nat.{lt-of-lt-of-le, add-zero, pow-suc, mul-assoc, mul-le-mul-right, one-mul}
@@ -7,8 +7,8 @@ use native.Mathlib.Numerals.{add-one}
 use native.Mathlib.Omega.{arith}
 use lib.Dec.{lit<}
 use lib.Pow.{pow-mono}
-use Rattle.bits.specs.Fields.{bitAt, field, IsField}
-use Rattle.bits.proofs.Laws.{field-lt, field-one, is-part, is-field}
+use Rattle.bits.specs.Fields.{bitAt, IsField}
+use Rattle.bits.proofs.Laws.{field-lt, field-one, is-part}
 use Rattle.values.specs.Group.{planes}
 
 pub bit-lt : (s : List ℕ) (i : ℕ) → bitAt s i < 2

@@ -1,6 +1,6 @@
 -- A code group of a line: its four indices, as the data subpacket (C.5.4) and the sign subpacket (C.5.5) hold them. A data subpacket is a row of
 -- nibbles, and bit k of a nibble, the first being bit 0, belongs to coefficient k of its group.
-use mathlib.Core.Bool.{Bool, true, false, cond}
+use mathlib.Core.Bool.{Bool, cond}
 use mathlib.Core.List.{List}
 use Prim.Native.Nat.{ℕ, zero, suc, _+_, _-_, _*_, _%_, _^_}
 use lib.Dec.{ltb, eqb}

@@ -2,7 +2,6 @@
 use mathlib.Core.Path.{_≡_, refl}
 use Prim.Native.Nat.{_+_, _-_, _*_, _≤_, _<_}
 use native.Mathlib.Omega.{arith}
-use borrow.Author.Needs.{needs}
 use denote.Ref.{now}
 use lib.ListN.{length}
 use Rattle.whole.proofs.Machine.{back64}
@@ -103,15 +102,15 @@ coded-group-spec =
     (tie.spec
     Inv-loop
     μ-loop
-    (λ c κs. search needs)
-    (λ c. search needs)
-    (λ c κs. search needs)
-    (λ c κs. search needs)
-    (λ c κs. search needs)
+    (λ c κs. tt)
+    (λ c. omega arith)
+    (λ c κs. tt)
+    (λ c κs. omega arith)
+    (λ c κs. tt)
     loop-holds
     (λ c. omega (arith, below-four c))
     below-four
-    (λ c κs. search needs)
+    (λ c κs. tt)
     (λ c. sign c .inside)
     (λ c. omega arith)
     signed-index-requires
@@ -120,15 +119,15 @@ coded-group-spec =
     scaled-coefficient-requires
     (λ c. omega (arith, inside (c .before .before .before)))
     (λ c. inside (c .before .before .before))
-    (λ c κs. search needs)
+    (λ c κs. tt)
     add-used
-    (λ c. search needs)
-    (λ c. search needs)
+    (λ c. omega arith)
+    (λ c. omega arith)
     loop-again
-    (λ c κs. search needs)
-    (λ c κs. search needs)
-    (λ c. search needs)
-    (λ c κs. search needs)
-    (λ c. search needs)
+    (λ c κs. tt)
+    (λ c κs. omega arith)
+    (λ c. omega arith)
+    (λ c κs. tt)
+    (λ c. omega arith)
     (λ c. c .before .before .before .before .before .before .loop .inv .3 .long)
     returns)

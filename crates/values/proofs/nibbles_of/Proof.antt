@@ -1,6 +1,5 @@
 -- `values::nibbles_of` meets its contract: the tests pick the case. Assumes nothing.
 use native.Mathlib.Omega.{arith}
-use borrow.Author.Needs.{needs}
 use borrow.Author.Tests.{lt-ltb, le-ltb}
 use Rattle.values.specs.Group.{nibblesOf}
 use Rattle.values.proofs.nibbles_of.Statement.{statement}
@@ -20,4 +19,4 @@ returns-3 c = record { value = rw (lt-ltb _ _ (c .before .if1 .left), c .if2 .le
 
 pub nibbles-of-spec : {M : Type 1} → statement M
 nibbles-of-spec =
-    tie.close (tie.spec returns (λ c. search needs) (λ c. search needs) (λ c. search needs) returns-2 returns-3)
+    tie.close (tie.spec returns (λ c. omega arith) (λ c. omega arith) (λ c. omega arith) returns-2 returns-3)
