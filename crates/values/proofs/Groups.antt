@@ -1,4 +1,4 @@
--- A group as the code reads it: the sizes, the sign bits and the coefficients. Assumes nothing.
+-- A group: the laws of its definitions, and what the code reads of it. Assumes nothing.
 use mathlib.Core.Bool.{Bool, true, false, cond}
 use mathlib.Core.List.{List}
 use mathlib.Core.Path.{_≡_, refl, ap, ap₂, _∙_}
@@ -26,7 +26,7 @@ use Rattle.values.specs.declared.Next.{Next}
 use Rattle.values.proofs.Planes.{planes-lt, four-bit}
 use Rattle.values.proofs.Places.{Placing, placed-same}
 
--- ---- sign bits
+-- ---- what a group takes
 
 pub one-or-none : (b : Bool) → cond b 0 1 ≤ 1
 one-or-none true = omega arith
@@ -57,11 +57,12 @@ pub nibbles-none : (M T : ℕ) (fs : Bool) → M ≤ T → nibblesOf M T fs ≡ 
 unfolding nibblesOf
 nibbles-none M T fs h = rw (le-ltb T M h)
 
+-- whatever the sign
 signed-abs : (b : Bool) (n : ℕ) → natAbs (signed b n) ≡ n
 signed-abs true n = size-neg (pos n)
 signed-abs false n = refl
 
--- ---- what has been read of a group: the sizes, and the four bits in which the signs begin
+-- ---- sizes and indices
 
 module _ (dat : List ℕ) (fs : Bool) (M T at : ℕ) where
   pub v-lt : (k : ℕ) → v dat fs M T at k < 2 ^ (M - T)
@@ -172,12 +173,12 @@ module _ {dat sgn : List ℕ} {how : Coding} {g : Group} {next : Next} {vs : Lis
   unfolding signBitsOf
   used-all e f = f ∙ rw (e, sign-bits-same (λ k. getD vs k 0) sizes 4 (r .size))
 
+-- ---- the whole of a group, from its parts
+
 pub value-none : (dat sgn : List ℕ) (how : Coding) (g : Group) (next : Next) → g .m ≤ g .t → (k : ℕ) → value dat sgn how g next k ≡ pos 0
 unfolding value
 value-none dat sgn how g next h k =
     rw (index-none dat (how .fs) (g .m) (g .t) (next .at) sgn (next .sign) h k, coefficient-zero (how .uniform) (g .m) (g .t), scaled-zero (how .fq))
-
--- ---- the whole of a group, from its parts
 
 pub group-is : (dat sgn : List ℕ) (how : Coding) (g : Group) (next : Next) {cells₀ cells : List ℤ} {n taken k : ℕ}
     → n ≡ nibblesOf (g .m) (g .t) (how .fs) → taken ≡ signBitsOf dat (how .fs) (g .m) (g .t) (next .at)

@@ -62,6 +62,9 @@ module _ (dat sgn : List ℕ) (how : Coding) (l : Line) (from : Next) (cells : L
     unfolding valueAt
     line-coefficient s x h i = line-at s x h i
 
+    pub line-small : 0 < l .stride → (x : ℕ) → x < l .width → place l x < length cells → {F : ℕ} → how .fq ≤ F → natAbs (cell after (place l x)) < 2 ^ (31 + F)
+    line-small s x h i f = rw (line-at s x h i) (value-small x f)
+
     -- any other cell
     pub line-other : (p : ℕ) → ((x : ℕ) → x < l .width → p ≡ place l x → ⊥) → cell after p ≡ cell cells p
     line-other p h = rw after-is (placed-other (l .first) (l .stride) (valueAt dat sgn how l from cells) (l .width) cells p h)

@@ -1,6 +1,6 @@
 // One line of one band: from the data and sign subpackets (C.5.4, C.5.5) through the inverse quantiser (Annex D) into the coefficient cells.
 ghost use mathlib.Core.Path.{_≡_};
-ghost use Prim.Native.Nat.{_+_, _-_, _*_, _/_, _%_, _≤_, _<_, _^_, min};
+ghost use Prim.Native.Nat.{_-_, _≤_, _<_, _^_, min};
 ghost use lib.Dec.{eqb};
 ghost use lib.IntN.{pos};
 ghost use lib.ListN.{length};
@@ -39,7 +39,7 @@ fn count_in(z: i64) -> usize
     if z < 0 { 0 } else { z as usize % 32 }
 }
 
-// The difference, and 0 where there is none.
+// Choices are functions of their own, so that the code around them is one straight way. This one: a - b, and 0 where b is the larger.
 fn less(a: usize, b: usize) -> usize
     ensures { λ r. ⌜ r ≡ a - b ⌝ }
 {
@@ -58,8 +58,8 @@ fn chosen(which: bool, a: usize, b: usize) -> usize
     if which { a } else { b }
 }
 
-// The nibbles that a group takes of the data stretch.
-fn nibbles_of(m: usize, t: usize, fs: bool) -> usize
+// The nibbles that a code group takes of the data stretch: a pass over the counts adds these up to judge the length of the stretch.
+pub fn nibbles_of(m: usize, t: usize, fs: bool) -> usize
     requires { ⌜ m ≤ 31 ⌝ }
     ensures { λ r. ⌜ Takes m t fs r ⌝ }
 {
@@ -69,7 +69,7 @@ fn nibbles_of(m: usize, t: usize, fs: bool) -> usize
     if fs { m - t } else { m - t + 1 }
 }
 
-// The sizes of a group's coefficients, from n bitplanes.
+// The sizes of a group's four coefficients, from n bitplanes: a nibble has one bit of each.
 fn magnitudes(dat: &[u8], from: usize, n: usize) -> [usize; 4]
     requires { ⌜ (n ≤ 31) × (from ≤ 2 ^ 63) ⌝ }
     ensures { λ r. ⌜ Magnitudes (now (dat .entry)) from n r ⌝ }
@@ -90,7 +90,7 @@ fn magnitudes(dat: &[u8], from: usize, n: usize) -> [usize; 4]
     [v0, v1, v2, v3]
 }
 
-// The four bits in which a group's signs begin: the next of the sign stretch, or the nibble before its planes.
+// Four bits that hold a group's signs: the next of the sign stretch, of which it takes one for each size that is not 0, or the nibble before its planes.
 fn sign_field(dat: &[u8], sgn: &[u8], fs: bool, next: Next) -> usize
     ensures { λ r. ⌜ r ≡ signField (now (dat .entry)) (now (sgn .entry)) fs (next .at) (next .sign) ⌝ }
 {
@@ -124,7 +124,7 @@ fn signed_index(sign: usize, v: usize) -> i64
     if sign == 1 { -size } else { size }
 }
 
-// The part of a code group that the line has: `count` coefficients, of which k has the cell first + k·stride.
+// The part of a code group that the line has: `count` of its four coefficients, and coefficient k has the cell first + k·stride.
 struct Group {
     first: usize,
     stride: usize,
@@ -162,12 +162,12 @@ fn coded_group(
     let count = group.count;
     let fs = how.fs;
     let v = magnitudes(dat, next.at + chosen(fs, 0, 1), less(group.m, group.t));
-    let bits = sign_field(dat, sgn, fs, next);
+    let signs = sign_field(dat, sgn, fs, next);
     let mut used: usize = 0;
     let mut k: usize = 0;
     while k < count {
         let size = v[k];
-        let index = signed_index((bits >> (3 - chosen(fs, used, k))) % 2, size);
+        let index = signed_index((signs >> (3 - chosen(fs, used, k))) % 2, size);
         let to = first + k * stride;
         cells[to] = quantiser::scaled_coefficient(
             how.uniform,
@@ -185,7 +185,7 @@ fn coded_group(
     Next { at: at, sign: sign }
 }
 
-// A group into its cells. One whose planes are all truncated takes nothing.
+// A group into its cells. The coarser the picture, the more groups are truncated whole: these take nothing and are only cleared.
 fn group_values(
     dat: &[u8],
     sgn: &[u8],
@@ -204,7 +204,7 @@ fn group_values(
     coded_group(dat, sgn, cells, how, group, next)
 }
 
-// Group g of a line.
+// Group g of a line, with the bitplane count from its count cell.
 fn group_of(cells: &[i64], line: Line, g: usize) -> Group
     requires { ⌜ HasGroup line g (length (now cells)) ⌝ }
     ensures { λ r. ⌜ r ≡ groupOf line (now (cells .entry)) g ⌝ }
@@ -221,7 +221,8 @@ fn group_of(cells: &[i64], line: Line, g: usize) -> Group
     }
 }
 
-// A line. Bits past the end of a stretch read as 0: whether they are there is judged above.
+// The coefficients of a line into their cells, from what comes next in its packet's data and sign stretches. Bits past the end of a stretch read
+// as 0: whether all are there is judged by the caller, from the nibbles that the counts ask for and from the sign bit that comes next.
 pub fn line_values(
     dat: &[u8],
     sgn: &[u8],

@@ -13,14 +13,14 @@ use Rattle.values.proofs.coded_group.Statement.{statement}
 use Rattle.values.proofs.coded_group.Tie as tie
 
 abbrev Inv-loop : tie.InvT-loop
-Inv-loop dat sgn cells₀ how group next first stride count fs vs bits used₀ k₀ cells used k =
+Inv-loop dat sgn cells₀ how group next first stride count fs vs signs used₀ k₀ cells used k =
     (k ≤ group .count)
-    × Read dat sgn how group next vs bits
+    × Read dat sgn how group next vs signs
     × (used ≡ signBits (v dat (how .fs) (group .m) (group .t) (next .at)) k)
     × Placing (group .first) (group .stride) (value dat sgn how group next) k cells₀ cells
 
 abbrev μ-loop : tie.MeasureT-loop
-μ-loop dat sgn cells₀ how group next first stride count fs vs bits used₀ k₀ cells used k = group .count - k
+μ-loop dat sgn cells₀ how group next first stride count fs vs signs used₀ k₀ cells used k = group .count - k
 
 loop-holds : tie.Need-loop-holds Inv-loop μ-loop
 unfolding v signBits
