@@ -1,0 +1,2 @@
+-- Laws of fields, each once over the width.
+pub mod Laws

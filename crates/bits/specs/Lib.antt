@@ -1,0 +1,2 @@
+-- Fields of a stretch of bytes.
+pub mod Fields
