@@ -1,6 +1,6 @@
 -- Laws of tables: how they join, and what one says of which no check is broken. Assumes nothing.
 use Prim.Native.Nat.{ℕ, zero, suc, _+_, _≤_, _<_}
-use mathlib.Core.Bool.{Bool, true, false, _||_}
+use mathlib.Core.Bool.{Bool, true, false, _||_, cond}
 use mathlib.Core.List.{List, [], _∷_, _++_}
 use mathlib.Core.Path.{_≡_, refl, sym, _∙_}
 use native.Mathlib.Decide.{decLt}
@@ -8,14 +8,14 @@ use native.Mathlib.Numerals.{add-one}
 use native.Mathlib.Omega.{arith}
 use borrow.Author.Tests.{ltb-true, ltb-false}
 use lib.Dec.{ltb}
-use Rattle.rows.specs.Rows.{if, broken, first, then, each}
+use Rattle.rows.specs.Rows.{broken, first, then, each}
 use Rattle.rows.specs.declared.Check.{Check}
 use Rattle.rows.specs.declared.Verdict.{Verdict}
 use Rattle.rows.specs.declared.Verdict.the-variants.{Fine, Refused}
 
 -- ---- tables, one after the other
 
-pick-then : (b : Bool) (c : Check) (u v w : Verdict) → u ≡ then v w → if b (Refused c) u ≡ then (if b (Refused c) v) w
+pick-then : (b : Bool) (c : Check) (u v w : Verdict) → u ≡ then v w → cond b (Refused c) u ≡ then (cond b (Refused c) v) w
 pick-then true c u v w e = refl
 pick-then false c u v w e = e
 
@@ -69,7 +69,7 @@ abbrev pub Held : List Check → Type 0
 Held [] = Unit {0}
 Held (c ∷ cs) = Holds c × Held cs
 
-within : (c : Check) (a b : Bool) → a ≡ ltb (c .3) (c .4) → b ≡ ltb (c .5) (c .3) → (v : Verdict) → if (a || b) (Refused c) v ≡ Fine → Holds c × (v ≡ Fine)
+within : (c : Check) (a b : Bool) → a ≡ ltb (c .3) (c .4) → b ≡ ltb (c .5) (c .3) → (v : Verdict) → cond (a || b) (Refused c) v ≡ Fine → Holds c × (v ≡ Fine)
 within c true b p q v e = clash e
 within c false true p q v e = clash e
 within c false false p q v e =

@@ -1,6 +1,6 @@
 -- Document 01's refusals. 'Checking runs from the front. The first field at which a row applies decides; at one field the lowest number wins.'
 use Prim.Native.Nat.{ℕ, zero, suc}
-use mathlib.Core.Bool.{Bool, true, false, _||_}
+use mathlib.Core.Bool.{Bool, true, false, _||_, cond}
 use mathlib.Core.List.{List, [], _∷_, _++_}
 use lib.Dec.{ltb}
 use Rattle.rows.specs.declared.Row.{Row}
@@ -9,11 +9,6 @@ use Rattle.rows.specs.declared.Field.{Field}
 use Rattle.rows.specs.declared.Check.{Check}
 use Rattle.rows.specs.declared.Verdict.{Verdict}
 use Rattle.rows.specs.declared.Verdict.the-variants.{Fine, Refused}
-
--- one of two, by a test
-abbrev pub if : {A : Type 0} → Bool → A → A → A
-if true a b = a
-if false a b = b
 
 -- the number that document 01 gives each row
 abbrev pub number : Row → ℕ
@@ -41,7 +36,7 @@ broken c = ltb (c .3) (c .4) || ltb (c .5) (c .3)
 -- the first broken check of a table decides
 abbrev pub first : List Check → Verdict
 first [] = Fine
-first (c ∷ cs) = if (broken c) (Refused c) (first cs)
+first (c ∷ cs) = cond (broken c) (Refused c) (first cs)
 
 -- the tables of an index from 0 to n - 1, in that order: the loops of Annex A's tables
 unfoldable pub each : ℕ → (ℕ → List Check) → List Check

@@ -1,5 +1,6 @@
 // Refusals: a check and its range, the first broken check of a table, the verdict.
 ghost use mathlib.Core.Path.{_≡_};
+ghost use mathlib.Core.Bool.{cond};
 ghost use Rattle.rows.specs.Rows.{number, answer, placeOf, first, then};
 
 // The rows of document 01's table of refusal numbers, in its order.
@@ -181,4 +182,11 @@ pub fn then(v: Verdict, w: Verdict) -> Verdict
         Verdict::Fine => w,
         Verdict::Refused(_) => v,
     }
+}
+
+// The range of a check may depend on a test.
+pub fn choose(test: bool, a: usize, b: usize) -> usize
+    ensures { λ r. ⌜ r ≡ cond test a b ⌝ }
+{
+    if test { a } else { b }
 }
