@@ -63,7 +63,7 @@ pictureAt s p =
       rm = bitsAt s (p + 27) 6 2;
     }
 
--- Table A.7, Lcod to Nc, for a stream of n bytes. Profile and level (p + 8, p + 10) are not judged; Cw (p + 16) is, in the component table.
+-- Table A.7, Lcod to Hsl, for a stream of n bytes. Profile and level (p + 8, p + 10) are not judged; Cw (p + 16) is, in the component table.
 -- 'Lcod is neither 0 nor the lent length' is 6, 'an undeclared length (Lcod 0)' 4. Widths and heights of 1 to 16,384 and 1 to 4 components are built
 abbrev pub sizeChecks : ℕ → ℕ → Picture → List Check
 sizeChecks n p h =

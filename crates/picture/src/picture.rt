@@ -40,7 +40,7 @@ pub struct Picture {
 
 // The n bits behind the first k of the byte `at`.
 pub fn bits_at(s: &[u8], at: usize, k: usize, n: usize) -> usize
-    requires { ⌜ (at < 2 ^ 60) × ((k < 8) × (n ≤ 8)) ⌝ }
+    requires { ⌜ (at < 2 ^ 60) × (k < 8) × (n ≤ 8) ⌝ }
     ensures { λ r. ⌜ IsField (now (s .entry)) (8 * at + k) n r ⌝ }
 {
     bits::field(s, 8 * at + k, n)
