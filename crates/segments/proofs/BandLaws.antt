@@ -3,11 +3,14 @@ use Prim.Native.Nat.{ℕ, zero, suc, _+_, _*_, _-_, _/_, _%_, _^_, _≤_, _<_, m
 use mathlib.Core.Path.{_≡_, refl, sym, _∙_}
 use mathlib.Core.Bool.{Bool, true, false, cond}
 use native.Mathlib.Decide.{decLe, decLt}
-use native.Mathlib.Nat.{le-refl, mul-zero, mul-one, zero-mod}
+use native.Mathlib.Nat.{le-refl, mul-zero, mul-one, mul-comm, mul-le-mul, zero-mod, mod-lt, div-lt-iff-lt-mul}
+use native.Mathlib.Numerals.{add-one}
 use native.Mathlib.Omega.{arith}
 use borrow.Author.Tests.{lt-ltb, le-ltb, le-leb, lt-leb, eqb-true, eqb-false}
 use lib.Dec.{eqb, leb, ltb}
-use Rattle.segments.specs.Bands.{filterTypes, filterType, below, dx, dy, τx, τy, exists}
+use Rattle.segments.specs.Bands.{filterTypes, filterType, below, dx, dy, τx, τy, exists, bands, existing}
+use Rattle.picture.specs.Picture.{Built}
+use Rattle.picture.specs.declared.picture.Picture.{Picture}
 
 -- ---- β's depths and filters are those of which B.3 makes β
 
@@ -69,3 +72,28 @@ pub exists-high : (nlx nly sy β : ℕ) → nly ≤ nlx → β < filterTypes nlx
 exists-high nlx nly sy β h k l n =
     let q = below nlx nly β in
     rw (lt-leb β (nlx - nly) l, depth-back nly q (below-lt nlx nly β h k l), one-of (q % 3) n, mul-one)
+
+-- ---- how many there are
+
+module _ {h : Picture} (x : Built h) where
+  types-few : filterTypes (h .nlx) (h .nly) ≤ 10
+  types-few = omega (arith, x .nlx .1, x .nly .0, x .nly .1)
+
+  pub bands-few : bands (h .nc) (h .nlx) (h .nly) ≤ 40
+  bands-few = mul-le-mul {n₂ = 4} {m₂ = 10} (x .nc .1) types-few
+
+  -- band b is of component b mod Nc and of filter type b / Nc
+  pub band-component : (b : ℕ) → b % h .nc < 256
+  band-component b = omega (arith, x .nc .1, mod-lt b {m = h .nc} (x .nc .0))
+
+  pub band-type : (b : ℕ) → b < bands (h .nc) (h .nlx) (h .nly) → b / h .nc < filterTypes (h .nlx) (h .nly)
+  band-type b l = div-lt-iff-lt-mul {k = h .nc} {x = b} (x .nc .0) .1 (rw mul-comm at l)
+
+-- one band more
+pub existing-more : (is : ℕ → Bool) (b : ℕ) {n r : ℕ} → n ≡ existing is b → r ≡ cond (is b) 1 0 → n + r ≡ existing is (b + 1)
+unfolding existing
+existing-more is b e f = rw (add-one, e, f)
+
+pub one-at-most : (t : Bool) {r : ℕ} → r ≡ cond t 1 0 → r ≤ 1
+one-at-most true e = omega (arith, e)
+one-at-most false e = omega (arith, e)

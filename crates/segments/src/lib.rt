@@ -2,3 +2,4 @@
 pub mod bands;
 pub mod components;
 pub mod numbers;
+pub mod weights;
