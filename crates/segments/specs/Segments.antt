@@ -17,7 +17,7 @@ use Rattle.picture.specs.declared.segment.Segment.{Segment}
 use Rattle.segments.specs.Components.{sxAt, syAt, componentsChecks}
 use Rattle.segments.specs.Weights.{bandsIn, gainChecks}
 use Rattle.segments.specs.declared.kinds.Kind.{Kind}
-use Rattle.segments.specs.declared.kinds.Kind.the-variants.{Components, Weights, Extension, Nonlinear, Undecomposed, Tetrix, Registration, Prediction, Refresh, Slice, Predicted, Unknown}
+use Rattle.segments.specs.declared.kinds.Kind.the-variants.{Components, Weights, Extension, Undecomposed, Registration, Unbuilt, Slice, Predicted, Unknown}
 use Rattle.segments.specs.declared.seen.Seen.{Seen}
 
 -- Table A.2, as far as it goes here
@@ -26,12 +26,12 @@ kindOf m =
     cond (eqb m CDT) Components
     (cond (eqb m WGT) Weights
     (cond (eqb m COM) Extension
-    (cond (eqb m NLT) Nonlinear
+    (cond (eqb m NLT) (Unbuilt Nlt)
     (cond (eqb m CWD) Undecomposed
-    (cond (eqb m CTS) Tetrix
+    (cond (eqb m CTS) (Unbuilt Cts)
     (cond (eqb m CRG) Registration
-    (cond (eqb m TPC) Prediction
-    (cond (eqb m WGR) Refresh
+    (cond (eqb m TPC) (Unbuilt Tpc)
+    (cond (eqb m WGR) (Unbuilt Wgr)
     (cond (eqb m SLH) Slice
     (cond (eqb m SLI) Predicted
     Unknown))))))))))
@@ -126,12 +126,9 @@ abbrev pub checksOf : Kind → List ℕ → Picture → Seen → Segment → Lis
 checksOf Components s h x g = tableChecks s h x g
 checksOf Weights s h x g = weightChecks s h x g
 checksOf Extension s h x g = extensionChecks s g
-checksOf Nonlinear s h x g = unbuiltChecks Nlt (g .at)
 checksOf Undecomposed s h x g = undecomposedChecks s h x g
-checksOf Tetrix s h x g = unbuiltChecks Cts (g .at)
 checksOf Registration s h x g = registrationChecks h x g
-checksOf Prediction s h x g = unbuiltChecks Tpc (g .at)
-checksOf Refresh s h x g = unbuiltChecks Wgr (g .at)
+checksOf (Unbuilt f) s h x g = unbuiltChecks f (g .at)
 checksOf Slice s h x g = sliceChecks x g
 checksOf Predicted s h x g = predictedChecks x g
 checksOf Unknown s h x g = []

@@ -1,5 +1,6 @@
 // What a marker begins.
 use picture::marker::Marker;
+use rows::Field;
 ghost use mathlib.Core.Path.{_≡_};
 ghost use Rattle.segments.specs.Segments.{kindOf};
 
@@ -7,13 +8,12 @@ pub enum Kind {
     Components,
     Weights,
     Extension,
-    Nonlinear,
     Undecomposed,
-    Tetrix,
     Registration,
-    Prediction,
-    Refresh,
+    // a segment that this build lacks
+    Unbuilt(Field),
     Slice,
+    // a slice that may be predicted from another picture
     Predicted,
     Unknown,
 }
@@ -25,12 +25,12 @@ pub fn kind_of(marker: usize) -> Kind
         Marker::CDT => Kind::Components,
         Marker::WGT => Kind::Weights,
         Marker::COM => Kind::Extension,
-        Marker::NLT => Kind::Nonlinear,
+        Marker::NLT => Kind::Unbuilt(Field::Nlt),
         Marker::CWD => Kind::Undecomposed,
-        Marker::CTS => Kind::Tetrix,
+        Marker::CTS => Kind::Unbuilt(Field::Cts),
         Marker::CRG => Kind::Registration,
-        Marker::TPC => Kind::Prediction,
-        Marker::WGR => Kind::Refresh,
+        Marker::TPC => Kind::Unbuilt(Field::Tpc),
+        Marker::WGR => Kind::Unbuilt(Field::Wgr),
         Marker::SLH => Kind::Slice,
         Marker::SLI => Kind::Predicted,
         _ => Kind::Unknown,
