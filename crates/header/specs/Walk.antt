@@ -75,3 +75,8 @@ pub record Inside (n : ℕ) (w : Walk) : Type 0 where
   pub cdt : w .seen .cdt ≤ n
   pub wgt : w .seen .wgt ≤ n
   pub caption : w .seen .caption ≤ n
+
+-- what the walk's reader answers: that its places are inside follows, and stands beside it for the callers' sums
+pub record IsWalk (s : List ℕ) (h : Picture) (p : ℕ) (w : Walk) : Type 0 where
+  pub value : w ≡ walk s h p
+  pub inside : Inside (length s) w

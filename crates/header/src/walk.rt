@@ -11,7 +11,7 @@ ghost use mathlib.Core.Path.{_≡_};
 ghost use Prim.Native.Nat.{_<_, _≤_, _^_};
 ghost use lib.ListN.{length};
 ghost use Rattle.picture.specs.Picture.{Built};
-ghost use Rattle.header.specs.Walk.{captionPlace, ended, behind, accepted, judged, step, begun, Inside};
+ghost use Rattle.header.specs.Walk.{captionPlace, ended, behind, accepted, judged, step, begun, Inside, IsWalk};
 
 pub struct Walk {
     // the place of the segment at hand
@@ -121,4 +121,16 @@ fn step(s: &[u8], h: Picture, w: Walk) -> Walk
     let g = Segment::read(s, w.at);
     let v = segment_row(s, h, x, g);
     judge(v, kind_of(g.marker), s, g, x)
+}
+
+// From the place p to the first slice marker, or to what is refused first. Each segment takes bytes, so this ends.
+pub fn walk_from(s: &[u8], h: Picture, p: usize) -> Walk
+    requires { ⌜ Built h × (length (now s) < 2 ^ 32) × (p ≤ length (now s)) ⌝ }
+    ensures { λ r. ⌜ IsWalk (now (s .entry)) h p r ⌝ }
+{
+    let mut w = Walk::begin(p);
+    while !w.done {
+        w = step(s, h, w);
+    }
+    w
 }

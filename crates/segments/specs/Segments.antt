@@ -81,10 +81,11 @@ abbrev pub typeAt : List ℕ → ℕ → ℕ
 typeAt s p = fieldAt s (p + 4) 16
 
 -- 'Types 0x0000, 0x0001 and 0x8000 to 0xffff are accepted, their data not judged; others are answered 3.'
+abbrev pub typeChecks : List ℕ → ℕ → List Check
+typeChecks s p = check Value (p + 4) Tcom (typeAt s p) 0 (cond (ltb (typeAt s p) 0x8000) 1 0xffff) ∷ []
+
 abbrev pub extensionChecks : List ℕ → Segment → List Check
-extensionChecks s g =
-    lengthChecks g Lcom 4 0xffff
-    ++ (check Value (g .at + 4) Tcom (typeAt s (g .at)) 0 (cond (ltb (typeAt s (g .at)) 0x8000) 1 0xffff) ∷ [])
+extensionChecks s g = lengthChecks g Lcom 4 0xffff ++ typeChecks s (g .at)
 
 -- A.4.9: its values are not judged
 abbrev pub registrationChecks : Picture → Seen → Segment → List Check
@@ -109,10 +110,11 @@ sdChecks s h x g =
     ∷ []
 
 -- A.4.7: 'Zero or one .. Shall only be present if Nc > 3.'
+abbrev pub onlyChecks : Picture → Seen → ℕ → List Check
+onlyChecks h x p = check Marker p Cwd (1 + counted (x .cwd)) 0 (cond (ltb 3 (h .nc)) 1 0) ∷ []
+
 abbrev pub undecomposedChecks : List ℕ → Picture → Seen → Segment → List Check
-undecomposedChecks s h x g =
-    (check Marker (g .at) Cwd (1 + counted (x .cwd)) 0 (cond (ltb 3 (h .nc)) 1 0) ∷ [])
-    ++ (lengthChecks g Lcwd 3 3 ++ sdChecks s h x g)
+undecomposedChecks s h x g = onlyChecks h x (g .at) ++ (lengthChecks g Lcwd 3 3 ++ sdChecks s h x g)
 
 -- A.4.5, A.4.12: both tables stand before the first slice header, of either kind
 abbrev pub sliceChecks : Seen → Segment → List Check
