@@ -1,2 +1,3 @@
 pub mod Until
+pub mod Lists
 pub mod Steps
