@@ -13,7 +13,7 @@ use Rattle.rows.specs.declared.Row.the-variants.{Lacking}
 use Rattle.rows.specs.declared.Field.the-variants.{Cdt, Wgt, Crg, Lcdt, Lwgt, Lcom, Lcrg, Lcwd}
 use Rattle.rows.specs.declared.Verdict.{Verdict}
 use Rattle.rows.specs.declared.Verdict.the-variants.{Fine, Refused}
-use Rattle.rows.proofs.Tables.{append-fine}
+use Rattle.rows.proofs.Tables.{append-fine, held}
 use Rattle.picture.specs.Markers.{CAPTION}
 use Rattle.picture.specs.Segment.{segmentAt, lengthChecks}
 use Rattle.picture.specs.declared.picture.Picture.{Picture}
@@ -26,7 +26,7 @@ use Rattle.segments.specs.declared.kinds.Kind.{Kind}
 use Rattle.segments.specs.declared.kinds.Kind.the-variants.{Components, Weights, Extension, Undecomposed, Registration, Unbuilt, Slice, Predicted, Unknown}
 use Rattle.segments.specs.declared.seen.Seen.{Seen}
 use Rattle.segments.proofs.NumberLaws.{cond-le}
-use Rattle.header.specs.Walk.{captionPlace, accepted, judged, step, turn, begun, walkOr, walk, Inside}
+use Rattle.header.specs.Walk.{captionPlace, captionOf, ended, accepted, judged, step, turn, begun, walkOr, walk, Inside}
 use Rattle.header.specs.declared.walk.Walk.{Walk}
 use Rattle.header.proofs.Until.{Falls, until-free}
 
@@ -116,28 +116,49 @@ bound-unused never s h p = until-free (left s) (turn s h) (turn-falls s h) never
 
 -- ---- its places are inside the stream
 
-module _ (s : List ℕ) (h : Picture) (w : Walk) (i : Inside (length s) w) where
-  accepted-inside : (k : Kind) → (accepted k s (segmentAt s (w .at)) (w .seen) .done ≡ false → Further s (w .at) (accepted k s (segmentAt s (w .at)) (w .seen)))
-      → Inside (length s) (accepted k s (segmentAt s (w .at)) (w .seen))
-  accepted-inside Components f = record { at = f refl .1; cdt = i .at; wgt = i .wgt; caption = i .caption }
-  accepted-inside Weights f = record { at = f refl .1; cdt = i .cdt; wgt = i .at; caption = i .caption }
-  accepted-inside Extension f =
+-- an extension's data
+part-of : (s : List ℕ) (p : ℕ) (b : Bool) → 4 ≤ fieldAt s (p + 2) 16 → p + 2 + fieldAt s (p + 2) 16 ≤ length s →
+    cond b 0 (p + 6) + cond b 0 (fieldAt s (p + 2) 16 - 4) ≤ length s
+part-of s p true l e = omega arith
+part-of s p false l e = omega arith
+
+module _ (s : List ℕ) (h : Picture) (w : Walk) (i : Inside s w) where
+  -- where the walk ends
+  stays : Inside s (ended Fine (w .at) (w .seen))
+  stays = record { at = i .at; cdt = i .cdt; wgt = i .wgt; caption = i .caption; part = i .part }
+
+  caption-inside : (b : Bool) → 4 ≤ fieldAt s (w .at + 2) 16 → w .at + 2 + fieldAt s (w .at + 2) 16 ≤ length s →
+      captionOf s (cond b (w .at) (w .seen .caption)) .at + captionOf s (cond b (w .at) (w .seen .caption)) .size ≤ length s
+  caption-inside true l e = part-of s (w .at) (eqb (w .at) 0) l e
+  caption-inside false l e = i .part
+
+  accepted-inside : (k : Kind) → first (checksOf k s h (w .seen) (segmentAt s (w .at))) ≡ Fine → Inside s (accepted k s (segmentAt s (w .at)) (w .seen))
+  accepted-inside Components e =
+      record { at = accepted-on s h (w .seen) (w .at) Components e refl .1; cdt = i .at; wgt = i .wgt; caption = i .caption; part = i .part }
+  accepted-inside Weights e =
+      record { at = accepted-on s h (w .seen) (w .at) Weights e refl .1; cdt = i .cdt; wgt = i .at; caption = i .caption; part = i .part }
+  accepted-inside Extension e =
+      let f = accepted-on s h (w .seen) (w .at) Extension e refl .1 in
       let is = eqb (typeAt s (w .at)) CAPTION && eqb (w .seen .caption) 0 in
-      record { at = f refl .1; cdt = i .cdt; wgt = i .wgt; caption = cond-le is (w .at) (w .seen .caption) (length s) (i .at) (i .caption) refl }
-  accepted-inside Undecomposed f = record { at = f refl .1; cdt = i .cdt; wgt = i .wgt; caption = i .caption }
-  accepted-inside Registration f = record { at = f refl .1; cdt = i .cdt; wgt = i .wgt; caption = i .caption }
-  accepted-inside (Unbuilt n) f = record { at = i .at; cdt = i .cdt; wgt = i .wgt; caption = i .caption }
-  accepted-inside Slice f = record { at = i .at; cdt = i .cdt; wgt = i .wgt; caption = i .caption }
-  accepted-inside Predicted f = record { at = i .at; cdt = i .cdt; wgt = i .wgt; caption = i .caption }
-  accepted-inside Unknown f = record { at = i .at; cdt = i .cdt; wgt = i .wgt; caption = i .caption }
+      let size = lengthChecks (segmentAt s (w .at)) Lcom 4 0xffff in
+      let l = held size (append-fine size (typeChecks s (w .at)) e .0) .1 .1 .0 .least in
+      record { at = f; cdt = i .cdt; wgt = i .wgt; caption = cond-le is (w .at) (w .seen .caption) (length s) (i .at) (i .caption) refl; part = caption-inside is l f }
+  accepted-inside Undecomposed e =
+      record { at = accepted-on s h (w .seen) (w .at) Undecomposed e refl .1; cdt = i .cdt; wgt = i .wgt; caption = i .caption; part = i .part }
+  accepted-inside Registration e =
+      record { at = accepted-on s h (w .seen) (w .at) Registration e refl .1; cdt = i .cdt; wgt = i .wgt; caption = i .caption; part = i .part }
+  accepted-inside (Unbuilt f) e = stays
+  accepted-inside Slice e = stays
+  accepted-inside Predicted e = stays
+  accepted-inside Unknown e = stays
 
-  judged-inside : (v : Verdict) (k : Kind) → (judged v k s (segmentAt s (w .at)) (w .seen) .done ≡ false → Further s (w .at) (judged v k s (segmentAt s (w .at)) (w .seen)))
-      → Inside (length s) (judged v k s (segmentAt s (w .at)) (w .seen))
-  judged-inside Fine k f = accepted-inside k f
-  judged-inside (Refused c) k f = record { at = i .at; cdt = i .cdt; wgt = i .wgt; caption = i .caption }
+  judged-inside : (v : Verdict) (k : Kind) → (v ≡ Fine → first (checksOf k s h (w .seen) (segmentAt s (w .at))) ≡ Fine) → Inside s (judged v k s (segmentAt s (w .at)) (w .seen))
+  judged-inside Fine k f = accepted-inside k (f refl)
+  judged-inside (Refused c) k f = record { at = i .at; cdt = i .cdt; wgt = i .wgt; caption = i .caption; part = i .part }
 
-  pub step-inside : Inside (length s) (step s h w)
+  pub step-inside : Inside s (step s h w)
   unfolding step
   step-inside =
       let g = segmentAt s (w .at) in
-      judged-inside (first (segmentChecks s h (w .seen) g)) (kindOf (g .marker)) (step-on s h w)
+      let k = kindOf (g .marker) in
+      judged-inside (first (segmentChecks s h (w .seen) g)) k (λ e. append-fine (headChecks g) (checksOf k s h (w .seen) g) e .1)

@@ -1,15 +1,14 @@
 -- The header of a codestream: what its segments say, or the first broken check.
-use Prim.Native.Nat.{ℕ, zero, suc, _+_, _-_, _≤_, _<_, _^_}
+use Prim.Native.Nat.{ℕ, zero, suc, _+_, _≤_}
 use mathlib.Core.Path.{_≡_}
-use mathlib.Core.Bool.{Bool, false, not, _&&_, cond}
+use mathlib.Core.Bool.{Bool, false, _&&_, cond}
 use mathlib.Core.List.{List, [], _∷_, _++_}
-use lib.Dec.{eqb, ltb}
+use lib.Dec.{ltb}
 use lib.ListN.{length, take, drop, replicate}
-use Rattle.bits.specs.Fields.{fieldAt}
 use Rattle.rows.specs.Rows.{first}
 use Rattle.rows.specs.declared.Verdict.{Verdict}
 use Rattle.rows.specs.declared.Verdict.the-variants.{Fine, Refused}
-use Rattle.picture.specs.Picture.{pictureAt}
+use Rattle.picture.specs.Picture.{noPicture, pictureAt}
 use Rattle.picture.specs.Opening.{picturePlace, openingChecks}
 use Rattle.picture.specs.declared.picture.Picture.{Picture}
 use Rattle.segments.specs.Bands.{bands, existing}
@@ -18,9 +17,9 @@ use Rattle.segments.specs.Weights.{bandIn, gainAt, priorityAt}
 use Rattle.segments.specs.Segments.{noneSeen}
 use Rattle.segments.specs.declared.components.Component.{Component}
 use Rattle.segments.specs.declared.seen.Seen.{Seen}
-use Rattle.header.specs.Walk.{ended, walk}
+use Rattle.header.specs.Walk.{ended, walk, captionOf}
 use Rattle.header.specs.declared.walk.Walk.{Walk}
-use Rattle.header.specs.declared.caption.Caption.{Caption}
+use Rattle.header.specs.declared.captions.Caption.{Caption}
 use Rattle.header.specs.declared.weights.Weights.{Weights}
 use Rattle.header.specs.declared.header.Header.{Header}
 use Rattle.header.specs.declared.header.Reading.{Reading}
@@ -55,15 +54,6 @@ priorityOf s h cdt wgt b = cond (bandIs s h cdt b) (priorityAt s wgt (existing (
 abbrev pub weightsOf : List ℕ → Picture → ℕ → ℕ → Weights
 weightsOf s h cdt wgt = record { gains = listed 40 (gainOf s h cdt wgt); priorities = listed 40 (priorityOf s h cdt wgt) }
 
--- the bench caption by its extension's place, which is 0 where there is none: 'the stream's own bytes, without header'
-abbrev pub captionOf : List ℕ → ℕ → Caption
-captionOf s place =
-    record {
-      there = not (eqb place 0);
-      at = cond (eqb place 0) 0 (place + 6);
-      size = cond (eqb place 0) 0 (fieldAt s (place + 2) 16 - 4);
-    }
-
 -- by the picture header, the segments seen and the place of the first slice marker
 abbrev pub headerIn : List ℕ → Picture → Seen → ℕ → Header
 headerIn s h x slice =
@@ -79,34 +69,6 @@ headerIn s h x slice =
     }
 
 -- no header: all 0
-abbrev pub noPicture : Picture
-noPicture =
-    record {
-      lcod = 0;
-      ppih = 0;
-      plev = 0;
-      wf = 0;
-      hf = 0;
-      cw = 0;
-      hsl = 0;
-      nc = 0;
-      ng = 0;
-      ss = 0;
-      bw = 0;
-      fq = 0;
-      br = 0;
-      fslc = 0;
-      ppoc = 0;
-      cpih = 0;
-      nlx = 0;
-      nly = 0;
-      lh = 0;
-      rl = 0;
-      qpih = 0;
-      fs = 0;
-      rm = 0;
-    }
-
 abbrev pub noHeader : Header
 noHeader =
     record {
@@ -146,3 +108,8 @@ captionIn s c = take (c .size) (drop (c .at) s)
 
 unfoldable pub captionPart : List ℕ → List ℕ
 captionPart s = captionIn s (readingOf s .header .caption)
+
+-- what the header's reader answers: that the caption ends in the stream follows, and stands beside it for the callers' sums
+pub record IsReading (s : List ℕ) (r : Reading) : Type 0 where
+  pub value : r ≡ readingOf s
+  pub part : r .header .caption .at + r .header .caption .size ≤ length s

@@ -1,7 +1,7 @@
 -- From the picture header to the first slice header: one segment after the other.
 use Prim.Native.Nat.{ℕ, _+_, _-_, _<_, _≤_, _^_}
 use mathlib.Core.Path.{_≡_}
-use mathlib.Core.Bool.{Bool, true, false, _&&_, cond}
+use mathlib.Core.Bool.{Bool, true, false, not, _&&_, cond}
 use mathlib.Core.List.{List}
 use lib.Dec.{eqb}
 use lib.ListN.{length}
@@ -17,6 +17,8 @@ use Rattle.segments.specs.Segments.{kindOf, typeAt, noneSeen, segmentChecks}
 use Rattle.segments.specs.declared.kinds.Kind.{Kind}
 use Rattle.segments.specs.declared.kinds.Kind.the-variants.{Components, Weights, Extension, Undecomposed, Registration, Unbuilt, Slice, Predicted, Unknown}
 use Rattle.segments.specs.declared.seen.Seen.{Seen}
+use Rattle.bits.specs.Fields.{fieldAt}
+use Rattle.header.specs.declared.captions.Caption.{Caption}
 use Rattle.header.specs.declared.walk.Walk.{Walk}
 
 -- the segment g is the first of its kind; of the extensions only the first bench caption counts
@@ -69,14 +71,24 @@ walkOr never s h p = until (turn s h) never (length s + 2) (begun p)
 unfoldable pub walk : List ℕ → Picture → ℕ → Walk
 walk s h p = walkOr (begun p) s h p
 
--- the places of a walk are inside a stream of n bytes
-pub record Inside (n : ℕ) (w : Walk) : Type 0 where
-  pub at : w .at ≤ n
-  pub cdt : w .seen .cdt ≤ n
-  pub wgt : w .seen .wgt ≤ n
-  pub caption : w .seen .caption ≤ n
+-- the bench caption by its extension's place, which is 0 where there is none: 'the stream's own bytes, without header'
+abbrev pub captionOf : List ℕ → ℕ → Caption
+captionOf s place =
+    record {
+      there = not (eqb place 0);
+      at = cond (eqb place 0) 0 (place + 6);
+      size = cond (eqb place 0) 0 (fieldAt s (place + 2) 16 - 4);
+    }
+
+-- the places of a walk are inside the stream
+pub record Inside (s : List ℕ) (w : Walk) : Type 0 where
+  pub at : w .at ≤ length s
+  pub cdt : w .seen .cdt ≤ length s
+  pub wgt : w .seen .wgt ≤ length s
+  pub caption : w .seen .caption ≤ length s
+  pub part : captionOf s (w .seen .caption) .at + captionOf s (w .seen .caption) .size ≤ length s
 
 -- what the walk's reader answers: that its places are inside follows, and stands beside it for the callers' sums
 pub record IsWalk (s : List ℕ) (h : Picture) (p : ℕ) (w : Walk) : Type 0 where
   pub value : w ≡ walk s h p
-  pub inside : Inside (length s) w
+  pub inside : Inside s w

@@ -114,7 +114,7 @@ fn judge(v: Verdict, kind: Kind, s: &[u8], g: Segment, x: Seen) -> Walk
 }
 
 fn step(s: &[u8], h: Picture, w: Walk) -> Walk
-    requires { ⌜ Built h × (length (now s) < 2 ^ 32) × Inside (length (now s)) w ⌝ }
+    requires { ⌜ Built h × (length (now s) < 2 ^ 32) × Inside (now s) w ⌝ }
     ensures { λ r. ⌜ r ≡ step (now (s .entry)) h w ⌝ }
 {
     let x = w.seen;

@@ -30,11 +30,7 @@ fn is_band(s: &[u8], h: Picture, cdt: usize, b: usize) -> bool
 fn byte_if(s: &[u8], is: bool, place: usize) -> u8
     ensures { λ r. ⌜ r ≡ cond is (fieldAt (now (s .entry)) place 8) 0 ⌝ }
 {
-    if is {
-        bits::u8_at(s, place) as u8
-    } else {
-        0
-    }
+    if is { bits::u8_at(s, place) as u8 } else { 0 }
 }
 
 impl Weights {

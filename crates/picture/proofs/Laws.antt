@@ -1,5 +1,5 @@
 -- Laws of segments and of the picture header. Assumes nothing.
-use Prim.Native.Nat.{ℕ, _+_, _≤_, _<_, _^_}
+use Prim.Native.Nat.{ℕ, _+_, _*_, _≤_, _<_, _^_}
 use mathlib.Core.Path.{_≡_, sym}
 use mathlib.Core.Bool.{Bool, true, false, cond}
 use mathlib.Core.List.{List, _++_}
@@ -12,7 +12,10 @@ use Rattle.rows.specs.Rows.{first}
 use Rattle.rows.specs.declared.Verdict.the-variants.{Fine}
 use Rattle.rows.specs.declared.Field.{Field}
 use Rattle.rows.proofs.Tables.{append-fine, held}
-use Rattle.picture.specs.Segment.{segmentAt, lengthChecks, IsSegment}
+use Rattle.rows.specs.declared.Field.the-variants.{Pih, Lpih}
+use Rattle.picture.specs.Markers.{PIH}
+use Rattle.picture.specs.Segment.{segmentAt, markerChecks, lengthChecks, IsSegment}
+use Rattle.picture.specs.Opening.{startChecks, picturePlace, pictureChecks, openingChecks, Opened}
 use Rattle.picture.specs.Picture.{pictureAt, sizeChecks, precisionChecks, modeChecks, levelChecks, fieldChecks, leastBw, mostBw, Built}
 use Rattle.picture.specs.declared.segment.Segment.{Segment}
 
@@ -63,4 +66,24 @@ built s n p e =
       qpih = l .1 .1 .1 .1 .1 .0 .most;
       fs = l .1 .1 .1 .1 .1 .1 .0 .most;
       rm = l .1 .1 .1 .1 .1 .1 .1 .0 .most;
+    }
+
+pub opened : (s : List ℕ) → first (openingChecks s) ≡ Fine → Opened s (pictureAt s (picturePlace s)) (picturePlace s)
+opened s e =
+    let n = length s in
+    let p = picturePlace s in
+    let h = pictureAt s p in
+    let size = lengthChecks (segmentAt s p) Lpih 26 26 in
+    let e1 = append-fine (startChecks s) (pictureChecks s p) e .1 in
+    let e2 = append-fine (markerChecks (segmentAt s p) Pih PIH) (size ++ fieldChecks n p h) e1 .1 in
+    let e3 = append-fine size (fieldChecks n p h) e2 in
+    let f = e3 .1 in
+    let z = held (sizeChecks n p h) (append-fine (sizeChecks n p h) (precisionChecks p h ++ (modeChecks p h ++ levelChecks p h)) f .0) .1 .0 in
+    let l = held size (e3 .0) .1 .1 .0 in
+    let lcod : h .lcod ≡ n = omega (arith, z .least, z .most) in
+    record {
+      built = built s n p f;
+      whole = lcod;
+      short = omega (arith, lcod, field-lt s (8 * (p + 4)) 32);
+      behind = omega (arith, ends s p Lpih 26 26 (lit≤ tt) (e3 .0), l .least);
     }

@@ -1,5 +1,5 @@
 -- A.4.1, A.4.3, A.4.4: SOC, CAP and PIH are the first three segments, in this order. Capability bits are not judged.
-use Prim.Native.Nat.{ℕ, _+_, _<_, _^_}
+use Prim.Native.Nat.{ℕ, _+_, _≤_, _<_, _^_}
 use mathlib.Core.Path.{_≡_}
 use mathlib.Core.List.{List, _++_}
 use lib.ListN.{length}
@@ -9,7 +9,8 @@ use Rattle.rows.specs.declared.Check.{Check}
 use Rattle.rows.specs.declared.Field.the-variants.{Soc, Cap, Lcap, Pih, Lpih}
 use Rattle.picture.specs.Markers.{SOC, CAP, PIH}
 use Rattle.picture.specs.Segment.{segmentAt, markerChecks, lengthChecks}
-use Rattle.picture.specs.Picture.{pictureAt, fieldChecks}
+use Rattle.picture.specs.Picture.{pictureAt, fieldChecks, Built}
+use Rattle.picture.specs.declared.picture.Picture.{Picture}
 use Rattle.picture.specs.declared.opening.Opening.{Opening}
 
 -- A.4.1 and A.4.3: SOC is a marker alone, so CAP stands at 2
@@ -39,3 +40,10 @@ openingOf s = record { verdict = first (openingChecks s); place = picturePlace s
 pub record IsOpening (s : List ℕ) (o : Opening) : Type 0 where
   pub value : o ≡ openingOf s
   pub below : o .place < 2 ^ 17
+
+-- what holds of an accepted opening
+pub record Opened (s : List ℕ) (h : Picture) (p : ℕ) : Type 0 where
+  pub built : Built h
+  pub whole : h .lcod ≡ length s
+  pub short : length s < 2 ^ 32
+  pub behind : p + 28 ≤ length s

@@ -63,6 +63,35 @@ pictureAt s p =
       rm = bitsAt s (p + 27) 6 2;
     }
 
+-- no picture header: all 0
+abbrev pub noPicture : Picture
+noPicture =
+    record {
+      lcod = 0;
+      ppih = 0;
+      plev = 0;
+      wf = 0;
+      hf = 0;
+      cw = 0;
+      hsl = 0;
+      nc = 0;
+      ng = 0;
+      ss = 0;
+      bw = 0;
+      fq = 0;
+      br = 0;
+      fslc = 0;
+      ppoc = 0;
+      cpih = 0;
+      nlx = 0;
+      nly = 0;
+      lh = 0;
+      rl = 0;
+      qpih = 0;
+      fs = 0;
+      rm = 0;
+    }
+
 -- Table A.7, Lcod to Hsl, for a stream of n bytes. Profile and level (p + 8, p + 10) are not judged; Cw (p + 16) is, in the component table.
 -- 'Lcod is neither 0 nor the lent length' is 6, 'an undeclared length (Lcod 0)' 4. Widths and heights of 1 to 16,384 and 1 to 4 components are built
 abbrev pub sizeChecks : ℕ → ℕ → Picture → List Check

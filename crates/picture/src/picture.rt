@@ -9,7 +9,7 @@ ghost use mathlib.Core.Path.{_≡_};
 ghost use Prim.Native.Nat.{_+_, _*_, _<_, _≤_, _^_};
 ghost use Rattle.bits.specs.Fields.{IsField};
 ghost use Rattle.rows.specs.Rows.{first};
-ghost use Rattle.picture.specs.Picture.{modesAt, pictureAt, sizeChecks, precisionChecks, modeChecks, levelChecks, fieldChecks};
+ghost use Rattle.picture.specs.Picture.{noPicture, modesAt, pictureAt, sizeChecks, precisionChecks, modeChecks, levelChecks, fieldChecks};
 
 // Every field of Table A.7 behind the segment's length, in the standard's letters.
 pub struct Picture {
@@ -115,6 +115,39 @@ impl Picture {
             qpih: m.qpih,
             fs: m.fs,
             rm: m.rm,
+        }
+    }
+}
+
+impl Picture {
+    // No picture header: all 0.
+    pub fn none() -> Self
+        ensures { λ r. ⌜ r ≡ noPicture ⌝ }
+    {
+        Self {
+            lcod: 0,
+            ppih: 0,
+            plev: 0,
+            wf: 0,
+            hf: 0,
+            cw: 0,
+            hsl: 0,
+            nc: 0,
+            ng: 0,
+            ss: 0,
+            bw: 0,
+            fq: 0,
+            br: 0,
+            fslc: 0,
+            ppoc: 0,
+            cpih: 0,
+            nlx: 0,
+            nly: 0,
+            lh: 0,
+            rl: 0,
+            qpih: 0,
+            fs: 0,
+            rm: 0,
         }
     }
 }

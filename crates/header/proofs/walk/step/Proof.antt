@@ -8,35 +8,18 @@ use Rattle.header.specs.Walk.{judged, step}
 use borrow.Author.Needs.{needs}
 use Rattle.header.proofs.walk.step.Statement.{statement}
 use Rattle.header.proofs.walk.step.Tie as tie
-use Rattle.header.proofs.walk.step.Reads as reads
-use Rattle.header.proofs.walk.step.Lts as lts
-use Rattle.header.proofs.walk.judge.Reads as judge-reads
-use Rattle.picture.proofs.segment.Segment.read.Reads as read-reads
-use Rattle.segments.proofs.kinds.kind_of.Reads as kind-of-reads
-use Rattle.segments.proofs.tables.segment_row.Reads as segment-row-reads
 
--- src/walk.rt:118:9
-read-requires : tie.Need-read-requires
-read-requires c κs = search needs
-
--- src/walk.rt:119:9
 segment-row-requires : tie.Need-segment-row-requires
 segment-row-requires c κs =
     let p = at-place (c .read .ensures) in
     let i = c .before .before .before .pre .2 in
     (c .before .before .before .pre .0, record { at = omega (arith, p, c .before .before .before .pre .1, i .at); cdt = omega (arith, c .before .before .before .pre .1, i .cdt) })
 
--- src/walk.rt:120:14
-kind-of-requires : tie.Need-kind-of-requires
-kind-of-requires c κs = search needs
-
--- src/walk.rt:120:5
 judge-requires : tie.Need-judge-requires
 judge-requires c κs =
     let p = at-place (c .before .before .read .ensures) in
     (omega (arith, p, c .before .before .before .before .before .pre .1, c .before .before .before .before .before .pre .2 .at), c .before .before .read .ensures .below)
 
--- src/walk.rt:113:1
 returns : tie.Need-returns
 unfolding step
 returns c =
@@ -49,4 +32,4 @@ returns c =
 
 pub step-spec : {M : Type 1} → statement M
 step-spec =
-    tie.close (tie.spec read-requires segment-row-requires kind-of-requires judge-requires returns)
+    tie.close (tie.spec (λ c κs. search needs) segment-row-requires (λ c κs. search needs) judge-requires returns)

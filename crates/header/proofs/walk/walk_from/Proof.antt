@@ -10,41 +10,29 @@ use Rattle.header.proofs.Steps.{left, step-falls, turn-on, turn-end, st
 use borrow.Author.Needs.{needs}
 use Rattle.header.proofs.walk.walk_from.Statement.{statement}
 use Rattle.header.proofs.walk.walk_from.Tie as tie
-use Rattle.header.proofs.walk.walk_from.Reads as reads
-use Rattle.header.proofs.walk.walk_from.Lts as lts
-use Rattle.header.proofs.walk.Walk.begin.Reads as begin-reads
-use Rattle.header.proofs.walk.step.Reads as step-reads
 
 abbrev Inv-loop : tie.InvT-loop
 Inv-loop s h p w₀ w =
-    Inside (length s) w × Looping (left s) (turn s h) (begun p) (length s + 2) (begun p) w
+    Inside s w × Looping (left s) (turn s h) (begun p) (length s + 2) (begun p) w
 
 abbrev μ-loop : tie.MeasureT-loop
 μ-loop s h p w₀ w =
     left s w
 
--- src/walk.rt:131:9
-begin-requires : tie.Need-begin-requires Inv-loop μ-loop
-begin-requires c κs = search needs
-
--- src/walk.rt:132:5
 loop-holds : tie.Need-loop-holds Inv-loop μ-loop
 loop-holds c =
-    rw (c .begin .ensures) (record { at = c .before .before .pre .2; cdt = zero-le; wgt = zero-le; caption = zero-le }, loop-begins (omega arith))
+    rw (c .begin .ensures) (record { at = c .before .before .pre .2; cdt = zero-le; wgt = zero-le; caption = zero-le; part = zero-le }, loop-begins (omega arith))
 
--- src/walk.rt:133:9
 step-requires : tie.Need-step-requires Inv-loop μ-loop
 step-requires c κs =
     (c .before .before .before .before .before .pre .0, c .before .before .before .before .before .pre .1, c .before .before .loop .inv .0)
 
--- src/walk.rt:132:5
 loop-less : tie.Need-loop-less Inv-loop μ-loop
 loop-less c =
     let l = c .before .before .before .loop in
     let a = c .before .before .before .before .before .before .args in
     rw (c .step .ensures) (step-falls (now (a .s)) (a .h) (l .w) (not-true _ (c .before .if1 .taken)))
 
--- src/walk.rt:132:5
 loop-again : tie.Need-loop-again Inv-loop μ-loop
 loop-again c =
     let l = c .before .before .before .loop in
@@ -53,7 +41,6 @@ loop-again c =
     let d = not-true _ (c .before .if1 .taken) in
     rw (c .step .ensures) (step-inside s (a .h) (l .w) (l .inv .0), loop-goes-on (l .inv .1) (turn-on s (a .h) (l .w) d) (step-falls s (a .h) (l .w) d))
 
--- src/walk.rt:127:1
 returns : tie.Need-returns Inv-loop μ-loop
 unfolding walk
 returns c =
@@ -64,4 +51,4 @@ returns c =
 pub walk-from-spec : {M : Type 1} → statement M
 walk-from-spec =
     tie.close
-    (tie.spec Inv-loop μ-loop begin-requires loop-holds step-requires loop-less loop-again returns)
+    (tie.spec Inv-loop μ-loop (λ c κs. search needs) loop-holds step-requires loop-less loop-again returns)

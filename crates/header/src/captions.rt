@@ -2,7 +2,7 @@
 use segments::numbers::less;
 ghost use mathlib.Core.Path.{_≡_};
 ghost use Prim.Native.Nat.{_<_, _^_};
-ghost use Rattle.header.specs.Header.{captionOf};
+ghost use Rattle.header.specs.Walk.{captionOf};
 
 pub struct Caption {
     pub there: bool,
