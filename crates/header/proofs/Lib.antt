@@ -1,0 +1,4 @@
+pub mod Until
+pub mod Lists
+pub mod Steps
+pub mod Whole
