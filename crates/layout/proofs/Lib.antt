@@ -1,2 +1,5 @@
 -- Laws of the layout.
+pub mod Sizes
+pub mod Filters
+pub mod Shapes
 pub mod Tables
