@@ -2,4 +2,5 @@
 pub mod Sizes
 pub mod Filters
 pub mod Shapes
+pub mod Columns
 pub mod Tables

@@ -1,12 +1,14 @@
 -- The answers of the functions that others build on, as the definitions have them, and beside them their ranges, for the sums of the callers.
 use mathlib.Core.Path.{_≡_}
-use Prim.Native.Nat.{ℕ, _^_, _≤_, _<_}
+use Prim.Native.Nat.{ℕ, _*_, _^_, _≤_, _<_}
 use Rattle.wavelet.specs.Bands.{τx, τy}
 use Rattle.layout.specs.declared.Shape.{Shape}
 use Rattle.layout.specs.declared.bands.Filter.{Filter}
 use Rattle.layout.specs.declared.bands.Component.{Component}
 use Rattle.layout.specs.declared.bands.Band.{Band}
+use Rattle.layout.specs.declared.precincts.Column.{Column}
 use Rattle.layout.specs.Bands.{sx, sy, Wc, Hc, N′y, letters-of, across-of, down-of, kind, dx, depth, exists}
+use Rattle.layout.specs.Precincts.{Cs, Wp, largest}
 
 -- r is 2^k, a power that a depth can have
 pub record Power (k r : ℕ) : Type 0 where
@@ -53,3 +55,21 @@ pub record IsBand (s : Shape) (β i : ℕ) (r : Band) : Type 0 where
   pub filter : SmallFilter (r .filter)
   pub part : SmallComponent (r .part)
   pub own : r .filter .dy ≤ r .part .ny
+
+pub record IsLargest (s : Shape) (r : ℕ) : Type 0 where
+  pub is : r ≡ largest (sx s) (s .nc)
+  pub some : 1 ≤ r
+  pub few : r ≤ 2
+
+pub record IsColumnWidth (s : Shape) (r : ℕ) : Type 0 where
+  pub is : r ≡ Cs s
+  pub some : 0 < r
+  pub few : r < 2 ^ 26
+
+abbrev pub column-of : Shape → ℕ → Column
+column-of s column = record { x = column * Cs s; width = Wp s column }
+
+pub record IsColumn (s : Shape) (column : ℕ) (r : Column) : Type 0 where
+  pub is : r ≡ column-of s column
+  pub small : r .x < 2 ^ 60
+  pub narrow : r .width < 2 ^ 60
