@@ -4,4 +4,6 @@ pub mod Filters
 pub mod Shapes
 pub mod Columns
 pub mod Sums
+pub mod Reaches
+pub mod Slots
 pub mod Tables
