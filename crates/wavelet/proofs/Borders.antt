@@ -1,13 +1,13 @@
 -- The filter of a line within its own Z samples: at each place the neighbours are samples of the line, so what stands past its ends need not be
 -- kept. The whole filter is two sweeps in place, over the even samples and then over the odd ones. Assumes nothing.
 use mathlib.Core.Path.{_≡_, refl, sym, ap, _∙_}
-use mathlib.Core.Bool.{Bool, true, false, cond}
+use mathlib.Core.Bool.{Bool, cond}
 use Prim.Native.Nat.{ℕ, zero, suc, _+_, _*_, _-_, _%_, _≤_, _<_}
 use native.Mathlib.Decide.{ℕ-discrete, decLt}
 use native.Mathlib.Omega.{arith}
 use borrow.Author.Tests.{lt-ltb, le-ltb, eq-eqb, ne-eqb}
 use lib.Dec.{eqb, ltb}
-use lib.IntN.{ℤ, pos, negsuc, _+ℤ_, _-ℤ_, +ℤ-comm}
+use lib.IntN.{ℤ, pos, _+ℤ_, _-ℤ_, +ℤ-comm}
 use lib.Signed.{shrZ}
 use Rattle.whole.specs.Numbers.{gap}
 use Rattle.whole.proofs.Linear.{eqZ, subZ}

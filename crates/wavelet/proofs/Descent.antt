@@ -7,7 +7,7 @@ use native.Mathlib.Nat.{pow-zero, pow-suc, mul-assoc, mul-comm, mul-one, le-tran
 use native.Mathlib.Omega.{arith}
 use lib.Dec.{lit≤}
 use lib.IntN.{ℤ}
-use Rattle.wavelet.specs.Transform.{Kind, LL, Band, low-size, down, table-E1, inverse, hor-transform, ver-transform}
+use Rattle.wavelet.specs.Transform.{LL, Band, low-size, down, table-E1, inverse}
 use Rattle.wavelet.specs.Places.{sample-at, bands, Sheet, Component, Transformed}
 use Rattle.wavelet.specs.Grids.{Gridded, Pass, SamplesWithin, Descended, Finished, rows-of, columns-of, across-turn, both-turn}
 use Rattle.wavelet.proofs.Levels.{across-level, both-level, low-place}

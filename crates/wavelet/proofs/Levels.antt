@@ -1,6 +1,6 @@
 -- A level of Table E.1 in place: where the band LL stands on the grid of its depth and every other coefficient is still in its place, filtering
 -- the lines of the finer grid leaves the next LL there. Assumes nothing.
-use mathlib.Core.Path.{_≡_, refl, sym, ap, ap₂, _∙_}
+use mathlib.Core.Path.{_≡_, sym, ap, ap₂, _∙_}
 use mathlib.Core.List.{List}
 use Prim.Native.Nat.{ℕ, zero, suc, _+_, _*_, _-_, _/_, _%_, _^_, _≤_, _<_}
 use native.Mathlib.Nat.{mul-assoc, mul-comm, add-mul, one-mul, zero-mul, add-zero, pow-suc, eq-of-mul-eq-mul-right}
@@ -8,7 +8,6 @@ use native.Mathlib.Decide.{ℕ-discrete}
 use native.Mathlib.Omega.{arith}
 use borrow.Author.Tests.{eq-eqb, ne-eqb}
 use lib.IntN.{ℤ}
-use lib.ListN.{length}
 use lib.Pow.{pow-pos}
 use Rattle.whole.specs.Numbers.{ceilDiv}
 use Rattle.wavelet.specs.Filter.{filter, samples}

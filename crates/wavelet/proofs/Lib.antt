@@ -5,6 +5,13 @@ pub mod Related
 pub mod Within
 pub mod Transforms
 pub mod Components
+pub mod Sizes
+pub mod Filling
+pub mod Lifting
+pub mod Sweeping
+pub mod Reading
+pub mod Grids
+pub mod Together
 pub mod Levels
 pub mod Passes
 pub mod Descent

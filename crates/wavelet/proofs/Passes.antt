@@ -1,16 +1,14 @@
 -- A pass over the lines of a component's grid: its cells are the samples of that grid, no two lines share one, and sizes grow by three at most.
 -- Assumes nothing.
-use mathlib.Core.Path.{_≡_, refl, sym, ap, ap₂, _∙_}
+use mathlib.Core.Path.{_≡_, sym, ap, _∙_}
 use mathlib.Core.List.{List}
-use Prim.Native.Nat.{ℕ, zero, suc, _+_, _*_, _-_, _/_, _%_, _^_, _≤_, _<_}
+use Prim.Native.Nat.{ℕ, _+_, _*_, _-_, _/_, _%_, _^_, _≤_, _<_}
 use native.Mathlib.Nat.{mul-assoc, mul-comm, add-comm, mul-pos, mul-mod-left, le-trans, div-add-mod', eq-of-mul-eq-mul-right}
 use native.Mathlib.Decide.{ℕ-discrete}
 use native.Mathlib.Omega.{arith}
 use lib.Pow.{pow-pos, shl-exact}
 use lib.Arith.{digits-lt, digits-div, digits-mod}
 use lib.IntN.{ℤ, natAbs}
-use lib.ListN.{length}
-use Rattle.whole.specs.Numbers.{ceilDiv}
 use Rattle.whole.specs.Cells.{cell}
 use Rattle.whole.proofs.Machine.{one-shl}
 use Rattle.wavelet.specs.Filter.{filter, samples}

@@ -7,9 +7,8 @@ use lib.IntN.{ℤ, pos, natAbs}
 use Rattle.whole.specs.Numbers.{ceilDiv, Within}
 use Rattle.whole.proofs.Within.{within-refl, within-le, within-add, within-sub, within-shr, within-of-size, size-of-within}
 use Rattle.wavelet.specs.Filter.{filter, even-step, odd-step, samples}
-use Rattle.wavelet.specs.Transform.{Band, woven, hor-transform, ver-transform}
 use Rattle.wavelet.specs.Distance.{numbers, joined}
-use Rattle.wavelet.proofs.Related.{Joins, Keeps, woven-low, woven-high, filter-keeps}
+use Rattle.wavelet.proofs.Related.{Joins, Keeps, filter-keeps}
 
 -- ---- the two steps
 

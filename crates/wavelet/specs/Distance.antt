@@ -2,7 +2,7 @@
 use Prim.Native.Nat.{ℕ, _+_}
 use Rattle.whole.specs.Numbers.{ceilDiv}
 use Rattle.wavelet.specs.Filter.{Steps}
-use Rattle.wavelet.specs.Transform.{Kind, Band, table-E1, inverse}
+use Rattle.wavelet.specs.Transform.{Kind, table-E1}
 
 -- place by place: an even place has its low number and ceil((its two highs) / 4), an odd place its high number and ceil((its two evens) / 2)
 unfoldable pub numbers : Steps ℕ

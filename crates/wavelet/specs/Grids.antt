@@ -6,7 +6,7 @@ use lib.IntN.{ℤ, natAbs}
 use lib.ListN.{length}
 use Rattle.whole.specs.Numbers.{ceilDiv}
 use Rattle.wavelet.specs.Filter.{filter, samples}
-use Rattle.wavelet.specs.Transform.{Kind, LL, Band, low-size, hor-transform, ver-transform, down, across, both}
+use Rattle.wavelet.specs.Transform.{Band, low-size, hor-transform, ver-transform, down, across, both}
 use Rattle.wavelet.specs.Places.{sample-at, bands, Sheet}
 
 -- the grid's lines filtered, along the rows and along the columns

@@ -3,7 +3,7 @@ pub mod Filter
 pub mod Transform
 pub mod Bands
 pub mod Places
-pub mod Sweeps
-pub mod Lines
-pub mod Grids
 pub mod Distance
+pub mod Lines
+pub mod Sweeps
+pub mod Grids

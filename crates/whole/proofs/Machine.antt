@@ -13,7 +13,7 @@ use mir.Syntax.{Width, w64}
 use mir.Val.{Fits, SFits, hbits, toZ, ofZ}
 use mir.ValLaws.{toZ-ofZ}
 use Rattle.whole.specs.Numbers.{withSign}
-use Rattle.whole.proofs.Linear.{up, dn, addZ, subZ, mulZ, negZ, absZ, toAbs, ltZ-true, ltZ-false}
+use Rattle.whole.proofs.Linear.{up, dn, addZ, subZ, negZ, absZ, toAbs, ltZ-true, ltZ-false}
 
 -- ---- a number that fits a signed width
 

@@ -2,12 +2,12 @@
 -- bound sizes. Assumes nothing.
 use mathlib.Core.Path.{_≡_, refl, sym, ap, _∙_}
 use mathlib.Core.Bool.{Bool, true, false}
-use Prim.Native.Nat.{ℕ, zero, suc, _+_, _-_, _*_, _/_, _≤_, _<_}
+use Prim.Native.Nat.{ℕ, zero, suc, _+_, _-_, _*_, _≤_, _<_}
 use native.Mathlib.Nat.{le-trans, add-mul, mul-add, mul-le-mul-right}
 use native.Mathlib.Omega.{arith}
 use lib.IntN.{ℤ, pos, negsuc, negℤ, natAbs, _+ℤ_, _-ℤ_, _*ℤ_}
 use lib.Signed.{shrZ}
-use Rattle.whole.specs.Numbers.{bySize, withSign, signed, Within, ceilDiv}
+use Rattle.whole.specs.Numbers.{bySize, signed, Within, ceilDiv}
 use Rattle.whole.proofs.Linear.{up, dn, addZ, negZ, subZ, mulZ, shrB, ceil-step, eqZ, absZ, toAbs, toDist, ofDist}
 
 pub within-refl : (x : ℤ) → Within 0 x x

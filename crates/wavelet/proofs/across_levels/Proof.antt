@@ -1,8 +1,8 @@
 -- `across_levels` is the first loop of Table E.1: the invariant is `Descending`, the measure the depth. Assumes nothing.
-use Prim.Native.Nat.{_+_, _-_, _^_, _≤_}
+use Prim.Native.Nat.{_-_, _^_}
 use native.Mathlib.Omega.{arith}
 use borrow.Author.Needs.{needs}
-use Rattle.wavelet.specs.Transform.{Kind, LL}
+use Rattle.wavelet.specs.Transform.{LL}
 use Rattle.wavelet.specs.Places.{sample-at, bands}
 use Rattle.wavelet.specs.Grids.{across-turn}
 use Rattle.wavelet.proofs.Passes.{samples-le}

@@ -1,9 +1,5 @@
 -- `filter_rows` leaves the rows of the grid filtered. Assumes nothing.
-use mathlib.Core.Path.{_≡_}
-use Prim.Native.Nat.{_*_, _^_, _%_}
-use native.Mathlib.Omega.{arith}
 use borrow.Author.Needs.{needs}
-use lib.Pow.{pow-pos}
 use Rattle.wavelet.proofs.Passes.{row-grid, row-cells, rows-made, row-shift, column-shift}
 use Rattle.wavelet.proofs.filter_rows.Statement.{statement}
 use Rattle.wavelet.proofs.filter_rows.Tie as tie

@@ -1,6 +1,6 @@
 -- `low_size` is ceil(n / 2 ^ d). Assumes nothing.
 use mathlib.Core.Path.{_≡_}
-use Prim.Native.Nat.{_*_, _^_, _%_, _≤_}
+use Prim.Native.Nat.{_*_, _^_, _%_}
 use native.Mathlib.Omega.{arith}
 use borrow.Author.Needs.{needs}
 use lib.Pow.{pow-mono, pow-pos}
