@@ -6,4 +6,5 @@ pub mod Columns
 pub mod Sums
 pub mod Reaches
 pub mod Slots
+pub mod Packets
 pub mod Tables

@@ -178,3 +178,26 @@ module _ (s : Shape) (β i : ℕ) (built : Built s) (h : i < s .nc) where
   pub Hb-letter : by-letter (τy (kind s β)) (low-size (Hc s i) (depth s β i)) (high-size (Hc s i) (depth s β i)) ≡ Hb s β i
   unfolding Hb
   Hb-letter = sym (rows-letter (Hc s i) (kind s β) (depth s β i))
+
+-- ---- rows of precincts and rows of a component
+
+module _ (s : Shape) (i : ℕ) (built : Built s) (h : i < s .nc) where
+  -- the rows of the grid that a row of a component's lowest band takes
+  pub scale : sy s i * 2 ^ N′y s i ≡ 2 ^ s .nly
+  scale = by (decLe (sy s i) 1)
+    where
+      by : Dec (sy s i ≤ 1) → sy s i * 2 ^ N′y s i ≡ 2 ^ s .nly
+      by (yes m) =
+          let one : sy s i ≡ 1 = omega (arith, built .sampled i h .down) in
+          let e : s .nly - 1 / 2 ≡ s .nly = omega arith in
+          rw one (rw e (one-mul (2 ^ s .nly)))
+      by (no n) =
+          let t : sy s i ≡ 2 = omega (arith, built .sampled i h .down-less, built .sampled i h .across-two) in
+          let e : s .nly - 2 / 2 ≡ s .nly - 1 = omega arith in
+          let u : 0 < s .nly = omega (arith, rw t at (built .sampled i h .enough)) in
+          rw t (rw e (sym (double (s .nly) u)))
+
+  -- the lowest rows of a component are as many as the rows of precincts
+  pub rows-low : low-size (Hc s i) (N′y s i) ≡ Npy s
+  unfolding Hc Npy
+  rows-low = ceil-ceil (s .hf) (sy s i) (2 ^ N′y s i) (built .sampled i h .down) (pow-pos (N′y s i)) ∙ ap (ceilDiv (s .hf)) scale
