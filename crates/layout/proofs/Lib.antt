@@ -7,4 +7,6 @@ pub mod Sums
 pub mod Reaches
 pub mod Slots
 pub mod Packets
+pub mod Places
+pub mod Existing
 pub mod Tables

@@ -68,7 +68,7 @@ ltb-same a b c d f g = pick (decLt a b)
         other (yes h) = absurd (n (g h))
         other (no m) = omega arith
 
-double : (n : ℕ) → 0 < n → 2 ^ n ≡ 2 * 2 ^ (n - 1)
+pub double : (n : ℕ) → 0 < n → 2 ^ n ≡ 2 * 2 ^ (n - 1)
 double zero h = absurd (omega arith)
 double (suc n) h =
     let e : suc n - 1 ≡ n = omega arith in
