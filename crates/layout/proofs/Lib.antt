@@ -9,4 +9,5 @@ pub mod Slots
 pub mod Packets
 pub mod Places
 pub mod Existing
+pub mod Cells
 pub mod Tables
