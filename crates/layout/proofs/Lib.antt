@@ -10,4 +10,5 @@ pub mod Packets
 pub mod Places
 pub mod Existing
 pub mod Cells
+pub mod Cover
 pub mod Tables
