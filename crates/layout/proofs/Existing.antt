@@ -63,6 +63,24 @@ module _ (s : Shape) (built : Built s) where
           small : (q : ℕ) → s .nly - q ≡ min (s .nly - q) (s .nly)
           small q = omega arith
 
+  -- a filter type that is high-pass across has a level
+  pub high-deep : (β : ℕ) → β < Nβ s → τx (kind s β) ≡ 1 → 0 < dx s β
+  high-deep β h e = by (way (s .nlx) (s .nly) β)
+    where
+      by : Way (s .nlx) (s .nly) β → 0 < dx s β
+      by (at-low z) =
+          let t : BandIs s β LL (s .nlx) (s .nly) = type-band s β (rw z (type-low (s .nlx) (s .nly))) in
+          absurd (omega (arith, sym (ap τx (t .letters)) ∙ e))
+      by (at-across n l) =
+          let sum = across-sum (s .nlx) (s .nly) β (first-types (s .nlx) (s .nly)) (built .no-more) (first-is (s .nlx) (s .nly) (built .no-more)) n l in
+          rw (type-band s β (type-across (s .nlx) (s .nly) β n l) .across) (deep-some (s .nly) (s .nlx + 1 - β) (sum .0))
+      by (at-both l) =
+          rw (type-band s β (type-both (s .nlx) (s .nly) β l) .across)
+          (left (s .nly) ((β - first-types (s .nlx) (s .nly)) / 3) (both-parts (s .nlx) (s .nly) β (built .no-more) h l .1))
+        where
+          left : (n q : ℕ) → q < n → 0 < n - q
+          left n q k = omega arith
+
   -- a filter type is known by its letters and its depth across
   pub type-known : (β β′ : ℕ) → β < Nβ s → β′ < Nβ s → kind s β ≡ kind s β′ → dx s β ≡ dx s β′ → β ≡ β′
   unfolding kind dx dy
