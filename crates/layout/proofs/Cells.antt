@@ -69,7 +69,7 @@ module _ (s : Shape) (built : Built s) (i : ℕ) (h : i < s .nc) where
       cell-below (Wc s i) (place (τy (kind s β)) (depth s β i) y) (place (τx (kind s β)) (dx s β) x) (p .0) (Hc s i) (p .1)
 
   stands : {β x y : ℕ} → Exists s i β x y
-    → Stands (Wc s i) (Hc s i) (s .nlx) (N′y s i) (kind s β) (dx s β) (depth s β i) x y (inner s β i x y % Wc s i) (inner s β i x y / Wc s i)
+      → Stands (Wc s i) (Hc s i) (s .nlx) (N′y s i) (kind s β) (dx s β) (depth s β i) x y (inner s β i x y % Wc s i) (inner s β i x y / Wc s i)
   unfolding inner
   stands {β} {x} {y} c =
       let p = inside (coefficient c) in
@@ -83,7 +83,7 @@ module _ (s : Shape) (built : Built s) (i : ℕ) (h : i < s .nc) where
   pub cells-differ : {β β′ x x′ y y′ : ℕ} → Exists s i β x y → Exists s i β′ x′ y′ → inner s β i x y ≡ inner s β′ i x′ y′ → (β ≡ β′) × (x ≡ x′) × (y ≡ y′)
   cells-differ {β} {β′} {x} {x′} {y} {y′} c d e =
       let q : Stands (Wc s i) (Hc s i) (s .nlx) (N′y s i) (kind s β′) (dx s β′) (depth s β′ i) x′ y′ (inner s β i x y % Wc s i) (inner s β i x y / Wc s i) =
-          subst (λ (n : ℕ). Stands (Wc s i) (Hc s i) (s .nlx) (N′y s i) (kind s β′) (dx s β′) (depth s β′ i) x′ y′ (n % Wc s i) (n / Wc s i)) (sym e) (stands d)
+      subst (λ (n : ℕ). Stands (Wc s i) (Hc s i) (s .nlx) (N′y s i) (kind s β′) (dx s β′) (depth s β′ i) x′ y′ (n % Wc s i) (n / Wc s i)) (sym e) (stands d)
       in
       let same = places-differ (stands c) q in
       (type-known s built β β′ (c .type) (d .type) (same .kinds) (same .depth-across), same .columns, same .rows)
@@ -101,23 +101,23 @@ module _ (s : Shape) (built : Built s) (i : ℕ) (h : i < s .nc) where
   every-cell n l =
       let wide = component-small s i (component-of s i) built h refl .wide in
       let f = place-found (Wc s i) (Hc s i) (s .nlx) (N′y s i) (n % Wc s i) (n / Wc s i) (omega (arith, built .no-more)) (mod-lt n wide)
-              (div-lt-iff-lt-mul wide .1 (omega (arith, mul-comm (Wc s i) (Hc s i)))) in
+      (div-lt-iff-lt-mul wide .1 (omega (arith, mul-comm (Wc s i) (Hc s i)))) in
       let b = has-band s built i h (f .kind) (f .dx) (f .dy) (f .stands .coefficient .has) in
       record {
         β = b .β;
         x = f .x;
         y = f .y;
         exists =
-          record {
-            type = b .below;
-            there = b .there;
-            column = subst (λ (p : Kind × ℕ). f .x < columns (Wc s i) (p .0) (p .1)) (λ j. (sym (b .letters) j, sym (b .across) j)) (f .stands .coefficient .column);
-            row = subst (λ (p : Kind × ℕ). f .y < rows (Hc s i) (p .0) (p .1)) (λ j. (sym (b .letters) j, sym (b .down) j)) (f .stands .coefficient .row);
-          };
+            record {
+              type = b .below;
+              there = b .there;
+              column = subst (λ (p : Kind × ℕ). f .x < columns (Wc s i) (p .0) (p .1)) (λ j. (sym (b .letters) j, sym (b .across) j)) (f .stands .coefficient .column);
+              row = subst (λ (p : Kind × ℕ). f .y < rows (Hc s i) (p .0) (p .1)) (λ j. (sym (b .letters) j, sym (b .down) j)) (f .stands .coefficient .row);
+            };
         cell =
-          (λ j. place (τy (b .letters j)) (b .down j) (f .y) * Wc s i + place (τx (b .letters j)) (b .across j) (f .x))
-          ∙ (λ j. f .stands .row j * Wc s i + f .stands .column j)
-          ∙ div-add-mod' n (Wc s i);
+            (λ j. place (τy (b .letters j)) (b .down j) (f .y) * Wc s i + place (τx (b .letters j)) (b .across j) (f .x))
+            ∙ (λ j. f .stands .row j * Wc s i + f .stands .column j)
+            ∙ div-add-mod' n (Wc s i);
       }
 
 -- ---- the whole buffer
@@ -147,7 +147,7 @@ module _ (s : Shape) (β i x y : ℕ) where
       ap (λ (p : ℕ). p * Wc s i + place (τx (kind s β)) (dx s β) x) e
       ∙ omega (arith, add-mul (2 ^ depth s β i) (place (τy (kind s β)) (depth s β i) y) (Wc s i))
 
-  -- and the next column `stride` cells behind
-  pub next-column : inner s β i (suc x) y ≡ inner s β i x y + 2 ^ dx s β
+  -- and the n-th column from here n strides behind
+  pub later-column : (n : ℕ) → inner s β i (x + n) y ≡ inner s β i x y + n * 2 ^ dx s β
   unfolding inner
-  next-column = omega (arith, suc-mul x (2 ^ dx s β))
+  later-column n = omega (arith, add-mul x n (2 ^ dx s β))

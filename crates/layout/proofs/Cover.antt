@@ -3,12 +3,12 @@
 use mathlib.Core.Path.{_≡_, refl, sym, ap, _∙_}
 use mathlib.Core.Bool.{Bool, true, false, cond}
 use Prim.Native.Nat.{ℕ, zero, suc, _+_, _*_, _-_, _/_, _%_, _^_, _≤_, _<_, min, max}
-use native.Mathlib.Nat.{mul-assoc, mul-comm, mul-left-comm, mul-div-mul-right, mul-le-mul, mul-le-mul-right, le-of-mul-le-mul-right, lt-of-mul-lt-mul-right, div-eq-of-lt-le, div-mul-le-self, lt-div-mul-add, div-add-mod', mod-lt, suc-mul, add-mul, one-mul, zero-mul, add-mul-div-right, mul-div-cancel, div-eq-of-lt, mul-mul-mul-comm}
+use native.Mathlib.Nat.{mul-assoc, mul-comm, mul-left-comm, mul-div-mul-right, mul-le-mul, mul-le-mul-right, le-of-mul-le-mul-right, lt-of-mul-lt-mul-right, div-eq-of-lt-le, div-mul-le-self, lt-div-mul-add, div-add-mod', mod-lt, suc-mul, add-mul, one-mul, zero-mul, add-mul-div-right, mul-div-cancel, mul-add-mod-self-right, mod-le, div-eq-of-lt, mul-mul-mul-comm}
 use native.Mathlib.Decide.{decLe, decLt}
 use native.Mathlib.Omega.{arith}
 use borrow.Author.Tests.{lt-ltb, le-ltb}
 use lib.Dec.{ltb}
-use lib.Pow.{pow-pos, pow-add}
+use lib.Pow.{pow-pos, pow-add, pow-mono}
 use Rattle.whole.specs.Numbers.{ceilDiv}
 use Rattle.wavelet.specs.Transform.{Kind, LL, HL, LH, HH, low-size, high-size}
 use Rattle.wavelet.specs.Bands.{τx, τy}
@@ -57,12 +57,12 @@ module _ (s : Shape) (built : Built s) (β i : ℕ) (h : i < s .nc) where
   row-below y l =
       let most = pow-pos (N′y s i - depth s β i) in
       let low : y / most-lines s β i * most-lines s β i < low-size (Hc s i) (depth s β i) =
-          omega (arith, div-mul-le-self y (most-lines s β i), Hb-letter s β i built h, letter-most (τy (kind s β)) (Hc s i) (depth s β i))
+      omega (arith, div-mul-le-self y (most-lines s β i), Hb-letter s β i built h, letter-most (τy (kind s β)) (Hc s i) (depth s β i))
       in
       let e : ceilDiv (low-size (Hc s i) (depth s β i)) (most-lines s β i) ≡ Npy s =
-          ceil-ceil (Hc s i) (2 ^ depth s β i) (most-lines s β i) (pow-pos (depth s β i)) most
-          ∙ ap (ceilDiv (Hc s i)) (sym (pow-add 2 (depth s β i) (N′y s i - depth s β i)) ∙ ap (λ (d : ℕ). 2 ^ d) (whole (N′y s i) (depth s β i) (depth-own s β i)))
-          ∙ rows-low s i built h
+      ceil-ceil (Hc s i) (2 ^ depth s β i) (most-lines s β i) (pow-pos (depth s β i)) most
+      ∙ ap (ceilDiv (Hc s i)) (sym (pow-add 2 (depth s β i) (N′y s i - depth s β i)) ∙ ap (λ (d : ℕ). 2 ^ d) (whole (N′y s i) (depth s β i) (depth-own s β i)))
+      ∙ rows-low s i built h
       in
       omega (arith, e, size-above most (low-size (Hc s i) (depth s β i)) (y / most-lines s β i) low)
     where
@@ -106,22 +106,20 @@ module _ (s : Shape) (built : Built s) where
   -- a column of precincts that is not the last is Cs wide, and the last one is what is left
   pub inner-column : (column : ℕ) → column < Npx s - 1 → (Wp s column ≡ Cs s) × (column * Cs s + Cs s < s .wf)
   unfolding Wp
-  inner-column column h =
-      (
-        rw (lt-ltb column (Npx s - 1) h),
-        omega (arith, column-inside s built (column + 1) (omega arith), add-mul column 1 (Cs s), one-mul (Cs s)),
-      )
+  inner-column column h = (
+    rw (lt-ltb column (Npx s - 1) h),
+    omega (arith, column-inside s built (column + 1) (omega arith), add-mul column 1 (Cs s), one-mul (Cs s)),
+  )
 
   pub last-column : (column : ℕ) → column < Npx s → Npx s - 1 ≤ column → (column * Cs s + Wp s column ≡ s .wf) × (Wp s column ≤ Cs s)
   unfolding Wp Npx
   last-column column h l =
       let some = Cs-range s built .0 in
       let n : ceilDiv (s .wf) (Cs s) ≡ (s .wf - 1) / Cs s + 1 =
-          ap (λ (k : ℕ). k / Cs s) (turned (s .wf) (Cs s) (built .wide) some) ∙ add-mul-div-right (s .wf - 1) 1 some
+      ap (λ (k : ℕ). k / Cs s) (turned (s .wf) (Cs s) (built .wide) some) ∙ add-mul-div-right (s .wf - 1) 1 some
       in
       let c : column ≡ (s .wf - 1) / Cs s = omega (arith, n) in
-      rw (le-ltb column (ceilDiv (s .wf) (Cs s) - 1) l)
-      (
+      rw (le-ltb column (ceilDiv (s .wf) (Cs s) - 1) l) (
         omega (arith, ap (λ (k : ℕ). k * Cs s) c, div-add-mod' (s .wf - 1) (Cs s), built .wide),
         omega (arith, mod-lt (s .wf - 1) some),
       )
@@ -156,8 +154,8 @@ module _ (s : Shape) (built : Built s) where
     unfolding Wb Wc
     Wb-grid =
         (λ j.
-          by-letter (τx (kind s β)) (sym (ceil-ceil (s .wf) (sx s i) (2 ^ dx s β) (built .sampled i h .across) (pow-pos (dx s β))) j)
-          (sym (ceil-ceil (s .wf) (sx s i) (2 ^ (dx s β - 1)) (built .sampled i h .across) (pow-pos (dx s β - 1))) j / 2))
+        by-letter (τx (kind s β)) (sym (ceil-ceil (s .wf) (sx s i) (2 ^ dx s β) (built .sampled i h .across) (pow-pos (dx s β))) j)
+        (sym (ceil-ceil (s .wf) (sx s i) (2 ^ (dx s β - 1)) (built .sampled i h .across) (pow-pos (dx s β - 1))) j / 2))
         ∙ sym (columns-letter (ceilDiv (s .wf) (sx s i)) (kind s β) (dx s β))
 
     pub band-column : (x : ℕ) → x < Wb s β i → x * u + τx (kind s β) * v < s .wf
@@ -245,7 +243,7 @@ module _ (s : Shape) (built : Built s) where
         by (no n) = absurd (omega (arith, one-column (omega arith)))
         by (yes c) =
             let e : column * Cs s + Cs s ≡ (column + 1) * times * u =
-                omega (arith, add-mul column 1 (Cs s), one-mul (Cs s), ap (λ (k : ℕ). (column + 1) * k) (Cs-multiple c), mul-assoc (column + 1) times u)
+            omega (arith, add-mul column 1 (Cs s), one-mul (Cs s), ap (λ (k : ℕ). (column + 1) * k) (Cs-multiple c), mul-assoc (column + 1) times u)
             in
             let below : x < (column + 1) * times = lt-of-mul-lt-mul-right u (omega (arith, e, k)) in
             omega (arith, e, mul-le-mul-right u below, suc-mul x u, half-less (τx (kind s β)) (τx-most (kind s β)) u-twice)
@@ -270,7 +268,7 @@ module _ (s : Shape) (built : Built s) where
 
     -- a column of the band that belongs to a column of precincts is one of those that are counted there
     pub member-column : (x : ℕ) → x < Wb s β i
-      → (first-x s (x * u / Cs s) β i ≤ x) × (x < first-x s (x * u / Cs s) β i + Wpb s (x * u / Cs s) β i)
+        → (first-x s (x * u / Cs s) β i ≤ x) × (x < first-x s (x * u / Cs s) β i + Wpb s (x * u / Cs s) β i)
     unfolding Wpb
     member-column x b =
         let c = x * u / Cs s in
@@ -279,27 +277,85 @@ module _ (s : Shape) (built : Built s) where
         let e = shifted (x * u / Cs s) x (x - first-x s (x * u / Cs s) β i) l (omega arith) in
         let end = width-end (x * u / Cs s) x l b (lt-div-mul-add {a = x * u} {b = Cs s} (Cs-range s built .0)) in
         let w : x - first-x s (x * u / Cs s) β i < Wpb s (x * u / Cs s) β i =
-            letter-above (τx (kind s β)) (Wp s (x * u / Cs s)) u v (x - first-x s (x * u / Cs s) β i) (τx-most (kind s β)) u-some v-some u-twice (omega (arith, e, end))
+        letter-above (τx (kind s β)) (Wp s (x * u / Cs s)) u v (x - first-x s (x * u / Cs s) β i) (τx-most (kind s β)) u-some v-some u-twice (omega (arith, e, end))
         in
         (from, omega (arith, w))
 
     -- and one that is counted in a column of precincts is a column of the band that belongs to it
     pub column-member : (column x : ℕ) → column < Npx s → first-x s column β i ≤ x → x < first-x s column β i + Wpb s column β i
-      → (x < Wb s β i) × (x * u / Cs s ≡ column)
+        → (x < Wb s β i) × (x * u / Cs s ≡ column)
     unfolding Wpb
     column-member column x l a b =
         let e = shifted column x (x - first-x s column β i) l (omega arith) in
         let w : (x - first-x s column β i) * u + τx (kind s β) * v < Wp s column =
-            letter-below (τx (kind s β)) (Wp s column) u v (x - first-x s column β i) (τx-most (kind s β)) u-some v-some u-twice (omega arith)
+        letter-below (τx (kind s β)) (Wp s column) u v (x - first-x s column β i) (τx-most (kind s β)) u-some v-some u-twice (omega arith)
         in
         let ends = column-ends column l in
         let band : x < by-letter (τx (kind s β)) (ceilDiv (s .wf) u) (ceilDiv (s .wf) v / 2) =
-            letter-above (τx (kind s β)) (s .wf) u v x (τx-most (kind s β)) u-some v-some u-twice (omega (arith, e, w, ends))
-        in
-        (
+        letter-above (τx (kind s β)) (s .wf) u v x (τx-most (kind s β)) u-some v-some u-twice (omega (arith, e, w, ends))
+        in (
           omega (arith, Wb-grid, band),
           div-eq-of-lt-le (Cs s) (omega (arith, e)) (omega (arith, e, w, ends, add-mul column 1 (Cs s), one-mul (Cs s))),
         )
+
+    -- what is below a component's width is, times its sampling factor, below the picture's
+    across-below : (n : ℕ) → n < Wc s i → n * sx s i < s .wf
+    unfolding Wc
+    across-below n l = below-size (built .sampled i h .across) (s .wf) n l
+
+    -- a band has a column in every column of precincts: what the rules on Cw and on the least sizes are for
+    pub width-some : (column : ℕ) → column < Npx s → 1 ≤ Wpb s column β i
+    unfolding Wpb
+    width-some column l =
+        letter-above (τx (kind s β)) (Wp s column) u v 0 (τx-most (kind s β)) u-some v-some u-twice (omega (arith, half (decLt 0 (s .cw))))
+      where
+        -- no column of precincts is narrower than a column of the band
+        step-most : 0 < s .cw → u ≤ largest (sx s) (s .nc) * 2 ^ s .nlx
+        step-most c = mul-le-mul (largest-of (sx s) (s .nc) i h) (pow-mono {i = dx s β} {j = s .nlx} (dx-most s β built))
+
+        rest : 0 < s .cw → Npx s - 1 ≤ column → u ≤ Wp s column
+        rest c m =
+            let e = last-column column l m in
+            let r : s .wf % Cs s ≤ Wp s column =
+            omega (arith, mod-le-of (s .wf) (Cs s) column (Wp s column) (e .0) (e .1) (Cs-range s built .0))
+            in
+            omega (arith, step-most c, built .last-column c, ap (λ (k : ℕ). s .wf % k) (Cs-columns s built c), r)
+          where
+            mod-le-of : (w c q r : ℕ) → q * c + r ≡ w → r ≤ c → 0 < c → w % c ≤ r
+            mod-le-of w c q r e b z = rw (sym e) (omega (arith, mul-add-mod-self-right q c r, mod-le r c))
+
+        half : Dec (0 < s .cw) → τx (kind s β) * v < Wp s column
+        half (yes c) = by (decLt column (Npx s - 1))
+          where
+            less : τx (kind s β) * v < u
+            less = half-less (τx (kind s β)) (τx-most (kind s β)) u-twice
+
+            by : Dec (column < Npx s - 1) → τx (kind s β) * v < Wp s column
+            by (no n) = omega (arith, less, rest c (omega arith))
+            by (yes m) =
+                let a = mul-le-mul-right u (times-some times u (Cs-range s built .0) (Cs-multiple c)) in
+                omega (arith, less, inner-column column m .0, Cs-multiple c, a, one-mul u)
+              where
+                times-some : (t u : ℕ) → 0 < Cs s → Cs s ≡ t * u → 1 ≤ t
+                times-some zero u a e = absurd (omega (arith, e, zero-mul u))
+                times-some (suc t) u a e = omega arith
+        half (no n) = whole (τx (kind s β)) refl
+          where
+            all : Wp s column ≡ s .wf
+            all =
+                let z : column ≡ 0 = omega (arith, one-column (omega arith)) in
+                omega (arith, last-column column l (omega (arith, one-column (omega arith))) .0, ap (λ (k : ℕ). k * Cs s) z, zero-mul (Cs s))
+
+            deep : 0 < dx s β → v < s .wf
+            deep k =
+                let a = below-size (pow-pos (dx s β - 1)) (Wc s i) 1 (built .sampled i h .parts .two-across (dx s β - 1) (omega (arith, dx-most s β built))) in
+                omega (arith, across-below (2 ^ (dx s β - 1)) (omega (arith, a)), mul-comm (sx s i) (2 ^ (dx s β - 1)))
+
+            whole : (t : ℕ) → τx (kind s β) ≡ t → τx (kind s β) * v < Wp s column
+            whole zero e = rw (e, all) (omega (arith, zero-mul v, built .wide))
+            whole (suc t) e =
+                let one : τx (kind s β) ≡ 1 = omega (arith, τx-most (kind s β)) in
+                rw (one, all) (omega (arith, one-mul v, deep (high-deep s built β type one)))
 
 -- ---- slices
 
@@ -313,7 +369,7 @@ module _ (s : Shape) (built : Built s) where
       (size-above (built .slice) (Npy s) (row / s .hsl) (omega (arith, a)), a, by (decLt (Npy s) ((row / s .hsl + 1) * s .hsl)) b)
     where
       by : Dec (Npy s < (row / s .hsl + 1) * s .hsl) → row < row / s .hsl * s .hsl + s .hsl
-        → row < row / s .hsl * s .hsl + cond (ltb (Npy s) ((row / s .hsl + 1) * s .hsl)) (Npy s % s .hsl) (s .hsl)
+          → row < row / s .hsl * s .hsl + cond (ltb (Npy s) ((row / s .hsl + 1) * s .hsl)) (Npy s % s .hsl) (s .hsl)
       by (no n) b = rw (le-ltb (Npy s) ((row / s .hsl + 1) * s .hsl) (omega arith)) b
       by (yes l) b =
           let q : Npy s / s .hsl ≡ row / s .hsl = div-eq-of-lt-le (s .hsl) (omega (arith, div-mul-le-self row (s .hsl))) l in

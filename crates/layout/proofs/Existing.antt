@@ -178,16 +178,15 @@ module _ (s : Shape) (built : Built s) where
 
     -- the m-th filter type of level NLy − q
     both-type : (q m : ℕ) → q < s .nly → m < 3 → (β₁ s + 3 * q + m < Nβ s) × BandIs s (β₁ s + 3 * q + m) (letters m) (s .nly - q) (s .nly - q)
-    both-type q m a b =
-        (
-          below (β₁ s) (Nβ s) (s .nlx - s .nly) (first-is (s .nlx) (s .nly) (built .no-more)) (filters-is (s .nlx) (s .nly) (built .no-more)),
-          type-band s (β₁ s + 3 * q + m)
+    both-type q m a b = (
+      below (β₁ s) (Nβ s) (s .nlx - s .nly) (first-is (s .nlx) (s .nly) (built .no-more)) (filters-is (s .nlx) (s .nly) (built .no-more)),
+      type-band s (β₁ s + 3 * q + m)
           (record {
             letters = t .letters ∙ ap letters (parts (β₁ s) .2);
             across = t .across ∙ ap (λ (z : ℕ). s .nly - z) (parts (β₁ s) .1);
             down = t .down ∙ ap (λ (z : ℕ). s .nly - z) (parts (β₁ s) .1);
           }),
-        )
+    )
       where
         parts : (f : ℕ) → (f ≤ f + 3 * q + m) × ((f + 3 * q + m - f) / 3 ≡ q) × ((f + 3 * q + m - f) % 3 ≡ m)
         parts f = (omega arith, omega arith, omega arith)

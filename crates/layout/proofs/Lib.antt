@@ -11,4 +11,5 @@ pub mod Places
 pub mod Existing
 pub mod Cells
 pub mod Cover
+pub mod Present
 pub mod Tables

@@ -30,10 +30,10 @@ turns-same zero x step f g h = refl
 turns-same (suc n) x step f g h =
     let z : x + 0 * step ≡ x = omega arith in
     λ i.
-      (rw z at (h 0 (omega arith))) i
-      ++ turns-same n (x + step) step f g (λ k l.
-        let e : x + step + k * step ≡ x + suc k * step = omega (arith, suc-mul k step) in
-        rw e (h (suc k) (omega arith))) i
+    (rw z at (h 0 (omega arith))) i
+    ++ turns-same n (x + step) step f g (λ k l.
+    let e : x + step + k * step ≡ x + suc k * step = omega (arith, suc-mul k step) in
+    rw e (h (suc k) (omega arith))) i
 
 -- a loop of n + m turns
 turns-more : {A : Type 0} (n m x step : ℕ) (f : ℕ → List A) → turns (n + m) x step f ≡ turns n x step f ++ turns m (x + n * step) step f
@@ -71,9 +71,9 @@ turns-nested {A} (suc n) m a F h =
     rw e
     (turns-more m (n * m) (a * m) 1 (λ j. F (j / m) (j % m))
     ∙ (λ i.
-      (ap (λ (x : ℕ). turns m x 1 (λ j. F (j / m) (j % m))) z ∙ turns-shift m (a * m) 0 (λ j. F (j / m) (j % m))
-      ∙ turns-same m 0 1 (λ k. F ((a * m + k) / m) ((a * m + k) % m)) (F a) (λ k l. one (0 + k * 1) (omega arith))) i
-      ++ (ap (λ (x : ℕ). turns (n * m) x 1 (λ j. F (j / m) (j % m))) b ∙ turns-nested n m (a + 1) F h) i))
+    (ap (λ (x : ℕ). turns m x 1 (λ j. F (j / m) (j % m))) z ∙ turns-shift m (a * m) 0 (λ j. F (j / m) (j % m))
+    ∙ turns-same m 0 1 (λ k. F ((a * m + k) / m) ((a * m + k) % m)) (F a) (λ k l. one (0 + k * 1) (omega arith))) i
+    ++ (ap (λ (x : ℕ). turns (n * m) x 1 (λ j. F (j / m) (j % m))) b ∙ turns-nested n m (a + 1) F h) i))
   where
     one : (k : ℕ) → k < m → F ((a * m + k) / m) ((a * m + k) % m) ≡ F a k
     one k l =
@@ -119,7 +119,7 @@ module _ (s : Shape) (β : ℕ) (f : β < β₁ s) where
     first-there : (row : ℕ) → row < Npy s → included s row β i 0 ≡ exists s β i
     first-there row r =
         let y : first-y s row β i + 0 / sy s i ≡ row =
-            ap (λ (d : ℕ). row * 2 ^ (N′y s i - d) + 0 / sy s i) first-depth ∙ ap (λ (d : ℕ). row * 2 ^ d + 0 / sy s i) (less-self (N′y s i)) ∙ ap (λ (d : ℕ). row * 2 ^ 0 + d) (zero-div (sy s i)) ∙ omega arith
+        ap (λ (d : ℕ). row * 2 ^ (N′y s i - d) + 0 / sy s i) first-depth ∙ ap (λ (d : ℕ). row * 2 ^ d + 0 / sy s i) (less-self (N′y s i)) ∙ ap (λ (d : ℕ). row * 2 ^ 0 + d) (zero-div (sy s i)) ∙ omega arith
         in
         sym (included-is s β i built h row 0 (pow-pos (s .nly - dy s β)))
         ∙ (λ j. exists s β i && eqb (zero-mod (sy s i) j) 0 && ltb (y j) (first-height j))
@@ -152,7 +152,7 @@ module _ (s : Shape) (row : ℕ) (built : Built s) where
           sum b x y h = omega arith
 
       each : (j : ℕ) → j < s .nc → when (included s row (β + j / s .nc) (j % s .nc) l) (part s (β + j / s .nc) (j % s .nc) (l + L0 s (β + j / s .nc) (j % s .nc)))
-        ≡ when (included s row β j l) (part s β j (l + L0 s β j))
+          ≡ when (included s row β j l) (part s β j (l + L0 s β j))
       each j h =
           let q : β + j / s .nc ≡ β = ap (λ (x : ℕ). β + x) (div-eq-of-lt h) ∙ omega arith in
           let r : j % s .nc ≡ j = mod-eq-of-lt h in
@@ -172,7 +172,7 @@ module _ (s : Shape) (row : ℕ) (built : Built s) where
       ∙ turns-nested (β₁ s) (s .nc) 0 (λ β i. when (exists s β i) (part s β i 0)) (built .some))
     where
       each : (j : ℕ) → j < β₁ s * s .nc → when (included s row (0 + j / s .nc) (j % s .nc) 0) (part s (0 + j / s .nc) (j % s .nc) (0 + L0 s (0 + j / s .nc) (j % s .nc)))
-        ≡ when (exists s (j / s .nc) (j % s .nc)) (part s (j / s .nc) (j % s .nc) 0)
+          ≡ when (exists s (j / s .nc) (j % s .nc)) (part s (j / s .nc) (j % s .nc) 0)
       each j h =
           let q : 0 + j / s .nc ≡ j / s .nc = omega arith in
           let b : j / s .nc < β₁ s = div-lt-iff-lt-mul (built .some) .1 h in
@@ -190,9 +190,9 @@ module _ (s : Shape) (row : ℕ) (built : Built s) where
   unfolding dy turns
   level β₀ g e h =
       let d : s .nly - down-of (s .nlx) (s .nly) β₀ ≡ g =
-          ap (λ (x : ℕ). s .nly - x)
-          (type-both (s .nlx) (s .nly) β₀ (part-of (β₁ s) e .0) .down ∙ ap (λ (q : ℕ). s .nly - q) (part-of (β₁ s) e .1))
-          ∙ omega arith
+      ap (λ (x : ℕ). s .nly - x)
+      (type-both (s .nlx) (s .nly) β₀ (part-of (β₁ s) e .0) .down ∙ ap (λ (q : ℕ). s .nly - q) (part-of (β₁ s) e .1))
+      ∙ omega arith
       in
       rw (d, one-step (2 ^ g)) (turns-same (2 ^ g) 0 1 (λ l. loop β₀ (β₀ + 3) 1 (λ β. packet s row l β ∷ [])) (three β₀) (λ k _. line (0 + k * 1)))
     where
@@ -226,11 +226,11 @@ module _ (s : Shape) (row : ℕ) (built : Built s) where
   same-one r e =
       rw (slots-count e, levels-count e)
       ((λ i.
-        first-slot r i
-        ∷ later-slot 1 0 0 (β₁ s) (λ z. omega arith) refl (later-line s built 1 (λ z. omega arith)) (sym (add-zero (β₁ s))) i
-        ∷ later-slot 2 0 1 (β₁ s + 1) (λ z. omega arith) refl (later-line s built 2 (λ z. omega arith)) refl i
-        ∷ later-slot 3 0 2 (β₁ s + 1 + 1) (λ z. omega arith) refl (later-line s built 3 (λ z. omega arith)) (add-assoc (β₁ s) 1 1) i
-        ∷ [])
+      first-slot r i
+      ∷ later-slot 1 0 0 (β₁ s) (λ z. omega arith) refl (later-line s built 1 (λ z. omega arith)) (sym (add-zero (β₁ s))) i
+      ∷ later-slot 2 0 1 (β₁ s + 1) (λ z. omega arith) refl (later-line s built 2 (λ z. omega arith)) refl i
+      ∷ later-slot 3 0 2 (β₁ s + 1 + 1) (λ z. omega arith) refl (later-line s built 3 (λ z. omega arith)) (add-assoc (β₁ s) 1 1) i
+      ∷ [])
       ∙ ap (λ (l : List (List Part)). first-packet s ∷ (l ++ [])) (sym (level (β₁ s) 0 (sym (add-zero (β₁ s))) (omega arith))))
 
   same-two : row < Npy s → s .nly ≡ 2 → loop 0 (slots s) 1 (λ k. slot s row k ∷ []) ≡ first-packet s ∷ later-packets
@@ -238,17 +238,17 @@ module _ (s : Shape) (row : ℕ) (built : Built s) where
   same-two r e =
       rw (slots-count e, levels-count e)
       ((λ i.
-        first-slot r i
-        ∷ later-slot 1 0 0 (β₁ s) (λ z. omega arith) refl (later-line s built 1 (λ z. omega arith)) (sym (add-zero (β₁ s))) i
-        ∷ later-slot 2 0 1 (β₁ s + 1) (λ z. omega arith) refl (later-line s built 2 (λ z. omega arith)) refl i
-        ∷ later-slot 3 0 2 (β₁ s + 1 + 1) (λ z. omega arith) refl (later-line s built 3 (λ z. omega arith)) (add-assoc (β₁ s) 1 1) i
-        ∷ later-slot 4 0 3 (β₁ s + 3) (λ z. omega arith) refl (later-line s built 4 (λ z. omega arith)) refl i
-        ∷ later-slot 5 0 4 (β₁ s + 3 + 1) (λ z. omega arith) refl (later-line s built 5 (λ z. omega arith)) (add-assoc (β₁ s) 3 1) i
-        ∷ later-slot 6 0 5 (β₁ s + 3 + 1 + 1) (λ z. omega arith) refl (later-line s built 6 (λ z. omega arith)) (plus (β₁ s)) i
-        ∷ later-slot 7 1 3 (β₁ s + 3) (λ z. omega arith) refl (later-line s built 7 (λ z. omega arith)) refl i
-        ∷ later-slot 8 1 4 (β₁ s + 3 + 1) (λ z. omega arith) refl (later-line s built 8 (λ z. omega arith)) (add-assoc (β₁ s) 3 1) i
-        ∷ later-slot 9 1 5 (β₁ s + 3 + 1 + 1) (λ z. omega arith) refl (later-line s built 9 (λ z. omega arith)) (plus (β₁ s)) i
-        ∷ [])
+      first-slot r i
+      ∷ later-slot 1 0 0 (β₁ s) (λ z. omega arith) refl (later-line s built 1 (λ z. omega arith)) (sym (add-zero (β₁ s))) i
+      ∷ later-slot 2 0 1 (β₁ s + 1) (λ z. omega arith) refl (later-line s built 2 (λ z. omega arith)) refl i
+      ∷ later-slot 3 0 2 (β₁ s + 1 + 1) (λ z. omega arith) refl (later-line s built 3 (λ z. omega arith)) (add-assoc (β₁ s) 1 1) i
+      ∷ later-slot 4 0 3 (β₁ s + 3) (λ z. omega arith) refl (later-line s built 4 (λ z. omega arith)) refl i
+      ∷ later-slot 5 0 4 (β₁ s + 3 + 1) (λ z. omega arith) refl (later-line s built 5 (λ z. omega arith)) (add-assoc (β₁ s) 3 1) i
+      ∷ later-slot 6 0 5 (β₁ s + 3 + 1 + 1) (λ z. omega arith) refl (later-line s built 6 (λ z. omega arith)) (plus (β₁ s)) i
+      ∷ later-slot 7 1 3 (β₁ s + 3) (λ z. omega arith) refl (later-line s built 7 (λ z. omega arith)) refl i
+      ∷ later-slot 8 1 4 (β₁ s + 3 + 1) (λ z. omega arith) refl (later-line s built 8 (λ z. omega arith)) (add-assoc (β₁ s) 3 1) i
+      ∷ later-slot 9 1 5 (β₁ s + 3 + 1 + 1) (λ z. omega arith) refl (later-line s built 9 (λ z. omega arith)) (plus (β₁ s)) i
+      ∷ [])
       ∙ (λ i. first-packet s ∷ (sym (level (β₁ s) 0 (sym (add-zero (β₁ s))) (omega arith)) i ++ (sym (level (β₁ s + 3) 1 refl (omega arith)) i ++ []))))
     where
       plus : (b : ℕ) → b + 3 + 1 + 1 ≡ b + 5

@@ -22,7 +22,7 @@ odd-multiple i j a b e = pick (decLt a b)
     clash c g =
         let p : 2 ^ b ≡ 2 ^ suc c * 2 ^ a = ap (λ (x : ℕ). 2 ^ x) g ∙ pow-add 2 (suc c) a in
         let q : 2 ^ a * (2 * i + 1) ≡ 2 ^ a * (j * 2 ^ suc c) =
-            mul-comm (2 ^ a) (2 * i + 1) ∙ e ∙ ap (λ (x : ℕ). j * x) p ∙ sym (mul-assoc j (2 ^ suc c) (2 ^ a)) ∙ mul-comm (j * 2 ^ suc c) (2 ^ a)
+        mul-comm (2 ^ a) (2 * i + 1) ∙ e ∙ ap (λ (x : ℕ). j * x) p ∙ sym (mul-assoc j (2 ^ suc c) (2 ^ a)) ∙ mul-comm (j * 2 ^ suc c) (2 ^ a)
         in
         let r : 2 * i + 1 ≡ j * 2 ^ suc c = eq-of-mul-eq-mul-left (2 ^ a) (pow-pos a) (2 * i + 1) (j * 2 ^ suc c) q in
         let t : j * 2 ^ suc c ≡ j * 2 ^ c * 2 = ap (λ (x : ℕ). j * x) (pow-suc 2 c) ∙ sym (mul-assoc j (2 ^ c) 2) in
@@ -57,8 +57,8 @@ module _ (d d′ i i′ : ℕ) where
       let b = odd-multiple i′ (2 * i + 1) (d′ - 1) (d - 1) (sym g) in
       let s : d ≡ d′ = omega (arith, a, b) in
       let t : 2 * i + 1 ≡ 2 * i′ + 1 =
-          eq-of-mul-eq-mul-left (2 ^ (d - 1)) (pow-pos (d - 1)) (2 * i + 1) (2 * i′ + 1)
-          (mul-comm (2 ^ (d - 1)) (2 * i + 1) ∙ g ∙ ap (λ (x : ℕ). (2 * i′ + 1) * 2 ^ (x - 1)) (sym s) ∙ mul-comm (2 * i′ + 1) (2 ^ (d - 1)))
+      eq-of-mul-eq-mul-left (2 ^ (d - 1)) (pow-pos (d - 1)) (2 * i + 1) (2 * i′ + 1)
+      (mul-comm (2 ^ (d - 1)) (2 * i + 1) ∙ g ∙ ap (λ (x : ℕ). (2 * i′ + 1) * 2 ^ (x - 1)) (sym s) ∙ mul-comm (2 * i′ + 1) (2 ^ (d - 1)))
       in
       (s, omega (arith, t))
 
@@ -240,7 +240,7 @@ module _ (W H Nx Ny c r : ℕ) (no-more : Ny ≤ Nx) (in-row : c < W) (in-column
       (λ z p. seek n (suc d) (a / 2) b (omega arith) (halve-even a d c z f) p)
     where
       by : Dec (d < Ny) → (a % 2 ≡ 0) ⊎ (a % 2 ≡ 1) → (b % 2 ≡ 0) ⊎ (b % 2 ≡ 1) → (a % 2 ≡ 0 → b / 2 * 2 ^ min (suc d) Ny ≡ r → Found W H Nx Ny c r)
-        → (a % 2 ≡ 0 → b * 2 ^ min (suc d) Ny ≡ r → Found W H Nx Ny c r) → Found W H Nx Ny c r
+          → (a % 2 ≡ 0 → b * 2 ^ min (suc d) Ny ≡ r → Found W H Nx Ny c r) → Found W H Nx Ny c r
       by (yes h) pa pb both one =
           let p : min d Ny ≡ d = omega arith in
           let q : min (suc d) Ny ≡ suc d = omega arith in

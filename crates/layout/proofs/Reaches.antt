@@ -52,8 +52,8 @@ pub Wpb-size : (s : Shape) (column β i : ℕ) → 0 < sx s i
 unfolding Wpb
 Wpb-size s column β i h =
     λ j.
-      by-letter (τx (kind s β)) (ceil-ceil (Wp s column) (sx s i) (2 ^ dx s β) h (pow-pos (dx s β)) j)
-      (ceil-ceil (Wp s column) (sx s i) (2 ^ (dx s β - 1)) h (pow-pos (dx s β - 1)) j / 2)
+    by-letter (τx (kind s β)) (ceil-ceil (Wp s column) (sx s i) (2 ^ dx s β) h (pow-pos (dx s β)) j)
+    (ceil-ceil (Wp s column) (sx s i) (2 ^ (dx s β - 1)) h (pow-pos (dx s β - 1)) j / 2)
 
 -- ---- the tests of Table B.4
 
@@ -153,21 +153,21 @@ module _ (s : Shape) (β i : ℕ) (built : Built s) (h : i < s .nc) where
   below-same row l k z =
       ltb-same (first-y s row β i + l / sy s i) (Hb s β i) (l + L0 s β i) (L0 s β i + min (Hb s β i - first-y s row β i) (most-lines s β i) * sy s i)
       (λ a.
-        omega (
-          arith,
-          whole,
-          mul-lt-mul-of-pos-right {m = l / sy s i} {n = min (Hb s β i - first-y s row β i) (most-lines s β i)} {k = sy s i} (omega (arith, line-fits l k)) (built .sampled i h .down),
-        ))
+      omega (
+        arith,
+        whole,
+        mul-lt-mul-of-pos-right {m = l / sy s i} {n = min (Hb s β i - first-y s row β i) (most-lines s β i)} {k = sy s i} (omega (arith, line-fits l k)) (built .sampled i h .down),
+      ))
       (λ a.
-        let q = lt-of-mul-lt-mul-right (sy s i) {m = l / sy s i} {n = min (Hb s β i - first-y s row β i) (most-lines s β i)} (omega (arith, whole)) in
-        omega (arith, q))
+      let q = lt-of-mul-lt-mul-right (sy s i) {m = l / sy s i} {n = min (Hb s β i - first-y s row β i) (most-lines s β i)} (omega (arith, whole)) in
+      omega (arith, q))
     where
       whole : l / sy s i * sy s i ≡ l
       whole = omega (arith, div-add-mod' l (sy s i), z)
 
   -- Table B.4's three tests: the band exists, the line is one of its component's, and it is not below the band
   pub included-is : (row l : ℕ) → l < 2 ^ (s .nly - dy s β)
-    → (exists s β i && eqb (l % sy s i) 0 && ltb (first-y s row β i + l / sy s i) (Hb s β i)) ≡ included s row β i l
+      → (exists s β i && eqb (l % sy s i) 0 && ltb (first-y s row β i + l / sy s i) (Hb s β i)) ≡ included s row β i l
   unfolding included
   included-is row l k =
       and-same (exists s β i) (eqb (l % sy s i) 0) (ltb (first-y s row β i + l / sy s i) (Hb s β i)) (eqb ((l + L0 s β i) % sy s i) 0)

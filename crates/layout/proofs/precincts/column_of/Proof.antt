@@ -31,7 +31,7 @@ returns c =
     let test : e .args .column < Npx s - 1 = omega (arith, c .if1 .taken, c .before .before .precinct-columns .ensures .0) in
     record {
       is =
-        λ i.
+          λ i.
           record {
             x = x i;
             width = (w .is ∙ (λ j. cond (sym (lt-ltb (e .args .column) (Npx s - 1) test) j) (Cs s) ((s .wf - 1) % Cs s + 1))) i;
@@ -61,12 +61,12 @@ returns-2 c =
     let test : Npx s - 1 ≤ e .args .column = omega (arith, c .before .if1 .left, c .before .before .before .precinct-columns .ensures .0) in
     record {
       is =
-        λ i.
+          λ i.
           record {
             x = x i;
             width =
-              (ap (λ (k : ℕ). (s .wf - 1) % k + 1) (w .is)
-              ∙ (λ j. cond (sym (le-ltb (e .args .column) (Npx s - 1) test) j) (Cs s) ((s .wf - 1) % Cs s + 1))) i;
+                (ap (λ (k : ℕ). (s .wf - 1) % k + 1) (w .is)
+                ∙ (λ j. cond (sym (le-ltb (e .args .column) (Npx s - 1) test) j) (Cs s) ((s .wf - 1) % Cs s + 1))) i;
           };
       small = omega (arith, x, column-inside s (e .pre .0) (e .args .column) (e .pre .1), e .pre .0 .narrow);
       narrow = omega (arith, mod-le (s .wf - 1) (c .before .before .before .before .column-width .result), e .pre .0 .narrow);
