@@ -1,0 +1,3 @@
+-- What is accepted is built.
+pub mod Tables
+pub mod Accepted
