@@ -1,0 +1,66 @@
+-- Laws of segments and of the picture header. Assumes nothing.
+use Prim.Native.Nat.{ℕ, _+_, _≤_, _<_, _^_}
+use mathlib.Core.Path.{_≡_, sym}
+use mathlib.Core.Bool.{Bool, true, false, cond}
+use mathlib.Core.List.{List, _++_}
+use native.Mathlib.Omega.{arith}
+use lib.ListN.{length}
+use lib.Dec.{ltb, lit≤}
+use Rattle.bits.specs.Fields.{field, fieldAt}
+use Rattle.bits.proofs.Laws.{field-lt}
+use Rattle.rows.specs.Rows.{first}
+use Rattle.rows.specs.declared.Verdict.the-variants.{Fine}
+use Rattle.rows.specs.declared.Field.{Field}
+use Rattle.rows.proofs.Tables.{append-fine, held}
+use Rattle.picture.specs.Segment.{segmentAt, lengthChecks, IsSegment}
+use Rattle.picture.specs.Picture.{pictureAt, sizeChecks, precisionChecks, modeChecks, levelChecks, fieldChecks, leastBw, mostBw, Built}
+use Rattle.picture.specs.declared.segment.Segment.{Segment}
+
+-- ---- a segment
+
+pub at-place : {s : List ℕ} {p : ℕ} {g : Segment} → IsSegment s p g → g .at ≡ p
+at-place x = λ i. x .value i .at
+
+-- a segment whose length is accepted ends in the stream
+pub ends : (s : List ℕ) (p : ℕ) (f : Field) (least most : ℕ) → 2 ≤ least → first (lengthChecks (segmentAt s p) f least most) ≡ Fine →
+    (p + 4 ≤ p + 2 + fieldAt s (p + 2) 16) × (p + 2 + fieldAt s (p + 2) 16 ≤ length s)
+ends s p f least most l e =
+    let h = held (lengthChecks (segmentAt s p) f least most) e in
+    omega (arith, h .0 .least, h .1 .0 .least, h .1 .1 .0 .least)
+
+-- ---- the picture header
+
+bw-range : (bw : ℕ) (a b : Bool) → cond a 20 8 ≤ bw → bw ≤ cond b 16 20 → (8 ≤ bw) × (bw ≤ 20)
+bw-range bw true true l m = omega arith
+bw-range bw true false l m = omega arith
+bw-range bw false true l m = omega arith
+bw-range bw false false l m = omega arith
+
+pub built : (s : List ℕ) (n p : ℕ) → first (fieldChecks n p (pictureAt s p)) ≡ Fine → Built (pictureAt s p)
+built s n p e =
+    let h = pictureAt s p in
+    let e1 = append-fine (sizeChecks n p h) (precisionChecks p h ++ (modeChecks p h ++ levelChecks p h)) e in
+    let e2 = append-fine (precisionChecks p h) (modeChecks p h ++ levelChecks p h) (e1 .1) in
+    let e3 = append-fine (modeChecks p h) (levelChecks p h) (e2 .1) in
+    let z = held (sizeChecks n p h) (e1 .0) in
+    let b = held (precisionChecks p h) (e2 .0) in
+    let m = held (modeChecks p h) (e3 .0) in
+    let l = held (levelChecks p h) (e3 .1) in
+    record {
+      wf = (z .1 .1 .1 .0 .least, z .1 .1 .1 .0 .most);
+      hf = (z .1 .1 .1 .1 .1 .0 .least, z .1 .1 .1 .1 .1 .0 .most);
+      cw = field-lt s _ 16;
+      hsl = (z .1 .1 .1 .1 .1 .1 .0 .least, field-lt s _ 16);
+      nc = (b .1 .0 .least, b .1 .0 .most);
+      bw = bw-range (h .bw) (ltb 18 (h .bw)) (ltb (h .bw) 18) (b .1 .1 .1 .1 .0 .least) (b .1 .1 .1 .1 .0 .most);
+      fq = omega (arith, b .1 .1 .1 .1 .1 .1 .0 .least, b .1 .1 .1 .1 .1 .1 .0 .most);
+      br = omega (arith, b .1 .1 .1 .1 .1 .1 .1 .0 .least, b .1 .1 .1 .1 .1 .1 .1 .0 .most);
+      cpih = m .1 .1 .1 .1 .0 .most;
+      nlx = (l .1 .0 .least, l .1 .0 .most);
+      nly = (l .1 .1 .0 .most, l .1 .1 .1 .1 .0 .most);
+      lh = field-lt s _ 1;
+      rl = field-lt s _ 1;
+      qpih = l .1 .1 .1 .1 .1 .0 .most;
+      fs = l .1 .1 .1 .1 .1 .1 .0 .most;
+      rm = l .1 .1 .1 .1 .1 .1 .1 .0 .most;
+    }

@@ -1,0 +1,4 @@
+pub mod Markers
+pub mod Segment
+pub mod Picture
+pub mod Opening

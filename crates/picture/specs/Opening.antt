@@ -1,0 +1,41 @@
+-- A.4.1, A.4.3, A.4.4: SOC, CAP and PIH are the first three segments, in this order. Capability bits are not judged.
+use Prim.Native.Nat.{ℕ, _+_, _<_, _^_}
+use mathlib.Core.Path.{_≡_}
+use mathlib.Core.List.{List, _++_}
+use lib.ListN.{length}
+use Rattle.bits.specs.Fields.{fieldAt}
+use Rattle.rows.specs.Rows.{first}
+use Rattle.rows.specs.declared.Check.{Check}
+use Rattle.rows.specs.declared.Field.the-variants.{Soc, Cap, Lcap, Pih, Lpih}
+use Rattle.picture.specs.Markers.{SOC, CAP, PIH}
+use Rattle.picture.specs.Segment.{segmentAt, markerChecks, lengthChecks}
+use Rattle.picture.specs.Picture.{pictureAt, fieldChecks}
+use Rattle.picture.specs.declared.opening.Opening.{Opening}
+
+-- A.4.1 and A.4.3: SOC is a marker alone, so CAP stands at 2
+abbrev pub startChecks : List ℕ → List Check
+startChecks s =
+    markerChecks (segmentAt s 0) Soc SOC
+    ++ (markerChecks (segmentAt s 2) Cap CAP ++ lengthChecks (segmentAt s 2) Lcap 2 0xffff)
+
+-- A.4.3: Lcap stands at 4, and the picture header behind the capabilities
+abbrev pub picturePlace : List ℕ → ℕ
+picturePlace s = 4 + fieldAt s 4 16
+
+-- A.4.4
+abbrev pub pictureChecks : List ℕ → ℕ → List Check
+pictureChecks s p =
+    markerChecks (segmentAt s p) Pih PIH
+    ++ (lengthChecks (segmentAt s p) Lpih 26 26 ++ fieldChecks (length s) p (pictureAt s p))
+
+abbrev pub openingChecks : List ℕ → List Check
+openingChecks s = startChecks s ++ pictureChecks s (picturePlace s)
+
+-- the verdict of these, the place of the picture header, and its fields
+abbrev pub openingOf : List ℕ → Opening
+openingOf s = record { verdict = first (openingChecks s); place = picturePlace s; picture = pictureAt s (picturePlace s) }
+
+-- what their reader answers: the place's bound follows, and stands beside it for the callers' sums
+pub record IsOpening (s : List ℕ) (o : Opening) : Type 0 where
+  pub value : o ≡ openingOf s
+  pub below : o .place < 2 ^ 17

@@ -1,0 +1,153 @@
+-- A.4.4: the picture header. Places count from p, its marker's place.
+use Prim.Native.Nat.{ℕ, _+_, _*_, _≤_, _<_, _^_}
+use mathlib.Core.Path.{_≡_}
+use mathlib.Core.Bool.{_||_, cond}
+use mathlib.Core.List.{List, [], _∷_, _++_}
+use lib.Dec.{eqb, leb, ltb}
+use Rattle.bits.specs.Fields.{field, fieldAt}
+use Rattle.rows.specs.Rows.{check, ample}
+use Rattle.rows.specs.declared.Check.{Check}
+use Rattle.rows.specs.declared.Row.the-variants.{Value, Lacking, Length}
+use Rattle.rows.specs.declared.Field.the-variants.{Lcod, Wf, Hf, Hsl, Nc, Ng, Ss, Bw, Fq, Br, Fslc, Ppoc, Cpih, Nlx, Nly, Qpih, Fs, Rm}
+use Rattle.picture.specs.declared.picture.Modes.{Modes}
+use Rattle.picture.specs.declared.picture.Picture.{Picture}
+
+-- u(n) behind the first k bits of the byte at a place
+abbrev pub bitsAt : List ℕ → ℕ → ℕ → ℕ → ℕ
+bitsAt s place k n = field s (8 * place + k) n
+
+-- Table A.7, the fields behind Bw
+abbrev pub modesAt : List ℕ → ℕ → Modes
+modesAt s p =
+    record {
+      fq = bitsAt s (p + 24) 0 4;
+      br = bitsAt s (p + 24) 4 4;
+      fslc = bitsAt s (p + 25) 0 1;
+      ppoc = bitsAt s (p + 25) 1 3;
+      cpih = bitsAt s (p + 25) 4 4;
+      nlx = bitsAt s (p + 26) 0 4;
+      nly = bitsAt s (p + 26) 4 4;
+      lh = bitsAt s (p + 27) 0 1;
+      rl = bitsAt s (p + 27) 1 1;
+      qpih = bitsAt s (p + 27) 2 2;
+      fs = bitsAt s (p + 27) 4 2;
+      rm = bitsAt s (p + 27) 6 2;
+    }
+
+-- Table A.7
+abbrev pub pictureAt : List ℕ → ℕ → Picture
+pictureAt s p =
+    record {
+      lcod = fieldAt s (p + 4) 32;
+      ppih = fieldAt s (p + 8) 16;
+      plev = fieldAt s (p + 10) 16;
+      wf = fieldAt s (p + 12) 16;
+      hf = fieldAt s (p + 14) 16;
+      cw = fieldAt s (p + 16) 16;
+      hsl = fieldAt s (p + 18) 16;
+      nc = fieldAt s (p + 20) 8;
+      ng = fieldAt s (p + 21) 8;
+      ss = fieldAt s (p + 22) 8;
+      bw = fieldAt s (p + 23) 8;
+      fq = bitsAt s (p + 24) 0 4;
+      br = bitsAt s (p + 24) 4 4;
+      fslc = bitsAt s (p + 25) 0 1;
+      ppoc = bitsAt s (p + 25) 1 3;
+      cpih = bitsAt s (p + 25) 4 4;
+      nlx = bitsAt s (p + 26) 0 4;
+      nly = bitsAt s (p + 26) 4 4;
+      lh = bitsAt s (p + 27) 0 1;
+      rl = bitsAt s (p + 27) 1 1;
+      qpih = bitsAt s (p + 27) 2 2;
+      fs = bitsAt s (p + 27) 4 2;
+      rm = bitsAt s (p + 27) 6 2;
+    }
+
+-- Table A.7, Lcod to Hsl, for a stream of n bytes. Profile and level (p + 8, p + 10) are not judged; Cw (p + 16) is, in the component table.
+-- 'Lcod is neither 0 nor the lent length' is 6, 'an undeclared length (Lcod 0)' 4. Widths and heights of 1 to 16,384 and 1 to 4 components are built
+abbrev pub sizeChecks : ℕ → ℕ → Picture → List Check
+sizeChecks n p h =
+    check Lacking (p + 4) Lcod (h .lcod) 1 ample
+    ∷ check Length (p + 4) Lcod (h .lcod) n n
+    ∷ check Value (p + 12) Wf (h .wf) 1 0xffff
+    ∷ check Lacking (p + 12) Wf (h .wf) 1 16384
+    ∷ check Value (p + 14) Hf (h .hf) 1 0xffff
+    ∷ check Lacking (p + 14) Hf (h .hf) 1 16384
+    ∷ check Value (p + 18) Hsl (h .hsl) 1 0xffff
+    ∷ []
+
+-- Table A.8: Bw is from 8 to 16, 18 or 20. Below 18 there is 8 to 16, above it 20
+abbrev pub leastBw : ℕ → ℕ
+leastBw bw = cond (ltb 18 bw) 20 8
+
+abbrev pub mostBw : ℕ → ℕ
+mostBw bw = cond (ltb bw 18) 16 20
+
+-- Table A.8: fractional bits are 8 for Bw 20 and else 0; a raw count has 4 bits for Bw 20 or up to 12, else 5
+abbrev pub fqFor : ℕ → ℕ
+fqFor bw = cond (eqb bw 20) 8 0
+
+abbrev pub brFor : ℕ → ℕ
+brFor bw = cond (leb bw 12 || eqb bw 20) 4 5
+
+-- Table A.7, Nc to Br. Bw 18 goes with non-linear output, which is not built
+abbrev pub precisionChecks : ℕ → Picture → List Check
+precisionChecks p h =
+    check Value (p + 20) Nc (h .nc) 1 8
+    ∷ check Lacking (p + 20) Nc (h .nc) 1 4
+    ∷ check Value (p + 21) Ng (h .ng) 4 4
+    ∷ check Value (p + 22) Ss (h .ss) 8 8
+    ∷ check Value (p + 23) Bw (h .bw) (leastBw (h .bw)) (mostBw (h .bw))
+    ∷ check Lacking (p + 23) Bw (h .bw) (cond (ltb 16 (h .bw)) 20 8) 20
+    ∷ check Value (p + 24) Fq (h .fq) (fqFor (h .bw)) (fqFor (h .bw))
+    ∷ check Value (p + 24) Br (h .br) (brFor (h .bw)) (brFor (h .bw))
+    ∷ []
+
+-- Table A.9: no transform, the reversible one of three components (1) and Star-Tetrix, of four (3)
+abbrev pub mostCpih : ℕ → ℕ
+mostCpih nc = cond (ltb nc 3) 0 (cond (ltb nc 4) 1 3)
+
+-- Table A.7, Fslc to NLy, with Tables A.9, A.13 and A.14. Star-Tetrix is not built, nor are more than 5 levels across or 2 down
+abbrev pub modeChecks : ℕ → Picture → List Check
+modeChecks p h =
+    check Value (p + 25) Fslc (h .fslc) 0 0
+    ∷ check Value (p + 25) Ppoc (h .ppoc) 0 0
+    ∷ check Value (p + 25) Cpih (h .cpih) 0 (mostCpih (h .nc))
+    ∷ check Value (p + 25) Cpih (h .cpih) (cond (eqb (h .cpih) 2) 3 0) 3
+    ∷ check Lacking (p + 25) Cpih (h .cpih) 0 1
+    ∷ []
+
+abbrev pub levelChecks : ℕ → Picture → List Check
+levelChecks p h =
+    check Value (p + 26) Nlx (h .nlx) 1 8
+    ∷ check Lacking (p + 26) Nlx (h .nlx) 1 5
+    ∷ check Value (p + 26) Nly (h .nly) 0 (h .nlx)
+    ∷ check Value (p + 26) Nly (h .nly) 0 6
+    ∷ check Lacking (p + 26) Nly (h .nly) 0 2
+    ∷ check Value (p + 27) Qpih (h .qpih) 0 1
+    ∷ check Value (p + 27) Fs (h .fs) 0 1
+    ∷ check Value (p + 27) Rm (h .rm) 0 1
+    ∷ []
+
+-- Table A.7, all fields behind the segment's length
+abbrev pub fieldChecks : ℕ → ℕ → Picture → List Check
+fieldChecks n p h = sizeChecks n p h ++ (precisionChecks p h ++ (modeChecks p h ++ levelChecks p h))
+
+-- the ranges of an accepted picture header
+pub record Built (h : Picture) : Type 0 where
+  pub wf : (1 ≤ h .wf) × (h .wf ≤ 16384)
+  pub hf : (1 ≤ h .hf) × (h .hf ≤ 16384)
+  pub cw : h .cw < 2 ^ 16
+  pub hsl : (1 ≤ h .hsl) × (h .hsl < 2 ^ 16)
+  pub nc : (1 ≤ h .nc) × (h .nc ≤ 4)
+  pub bw : (8 ≤ h .bw) × (h .bw ≤ 20)
+  pub fq : h .fq ≡ fqFor (h .bw)
+  pub br : h .br ≡ brFor (h .bw)
+  pub cpih : h .cpih ≤ 1
+  pub nlx : (1 ≤ h .nlx) × (h .nlx ≤ 5)
+  pub nly : (h .nly ≤ h .nlx) × (h .nly ≤ 2)
+  pub lh : h .lh < 2
+  pub rl : h .rl < 2
+  pub qpih : h .qpih ≤ 1
+  pub fs : h .fs ≤ 1
+  pub rm : h .rm ≤ 1

@@ -1,0 +1,104 @@
+-- Laws of tables: how they join, and what one says of which no check is broken. Assumes nothing.
+use Prim.Native.Nat.{ℕ, zero, suc, _+_, _≤_, _<_}
+use mathlib.Core.Bool.{Bool, true, false, _||_, cond}
+use mathlib.Core.List.{List, [], _∷_, _++_}
+use mathlib.Core.Path.{_≡_, refl, sym, _∙_}
+use native.Mathlib.Decide.{decLt}
+use native.Mathlib.Numerals.{add-one}
+use native.Mathlib.Omega.{arith}
+use borrow.Author.Tests.{ltb-true, ltb-false}
+use lib.Dec.{ltb}
+use Rattle.rows.specs.Rows.{broken, first, then, each}
+use Rattle.rows.specs.declared.Check.{Check}
+use Rattle.rows.specs.declared.Verdict.{Verdict}
+use Rattle.rows.specs.declared.Verdict.the-variants.{Fine, Refused}
+
+-- ---- tables, one after the other
+
+pick-then : (b : Bool) (c : Check) (u v w : Verdict) → u ≡ then v w → cond b (Refused c) u ≡ then (cond b (Refused c) v) w
+pick-then true c u v w e = refl
+pick-then false c u v w e = e
+
+pub first-append : (xs ys : List Check) → first (xs ++ ys) ≡ then (first xs) (first ys)
+first-append [] ys = refl
+first-append (c ∷ xs) ys = pick-then (broken c) c (first (xs ++ ys)) (first xs) (first ys) (first-append xs ys)
+
+-- the verdict of two tables, from the verdict of each
+pub joined : (xs ys : List Check) {v w r : Verdict} → r ≡ then v w → v ≡ first xs → w ≡ first ys → r ≡ first (xs ++ ys)
+joined xs ys e p q = e ∙ (λ i. then (p i) (q i)) ∙ sym (first-append xs ys)
+
+-- one table more of an index
+pub each-none : (f : ℕ → List Check) → Fine ≡ first (each 0 f)
+unfolding each
+each-none f = refl
+
+pub each-more : (n : ℕ) (f : ℕ → List Check) {v w r : Verdict} → r ≡ then v w → v ≡ first (each n f) → w ≡ first (f n) → r ≡ first (each (n + 1) f)
+unfolding each
+each-more n f e p q = rw add-one (joined (each n f) (f n) e p q)
+
+-- ---- nothing is broken
+
+clash : {A : Type 0} {c : Check} → Refused c ≡ Fine → A
+clash e = let z : _≡_ {A = ℕ} 0 1 = cc in absurd (omega arith)
+
+then-fine : (v w : Verdict) → then v w ≡ Fine → (v ≡ Fine) × (w ≡ Fine)
+then-fine Fine w e = (refl, e)
+then-fine (Refused c) w e = clash e
+
+pub append-fine : (xs ys : List Check) → first (xs ++ ys) ≡ Fine → (first xs ≡ Fine) × (first ys ≡ Fine)
+append-fine xs ys e = then-fine (first xs) (first ys) (sym (first-append xs ys) ∙ e)
+
+pub each-fine : (n : ℕ) (f : ℕ → List Check) → first (each n f) ≡ Fine → (k : ℕ) → k < n → first (f k) ≡ Fine
+unfolding each
+each-fine zero f e k h = absurd (omega arith)
+each-fine (suc n) f e k h = pick (decLt k n) (each-fine n f (append-fine (each n f) (f n) e .0) k)
+  where
+    pick : Dec (k < n) → (k < n → first (f k) ≡ Fine) → first (f k) ≡ Fine
+    pick (yes l) before = before l
+    pick (no l) before =
+        let q : k ≡ n = omega arith in
+        rw q (append-fine (each n f) (f n) e .1)
+
+-- the value found is from the least to the most
+pub record Holds (c : Check) : Type 0 where
+  pub least : c .4 ≤ c .3
+  pub most : c .3 ≤ c .5
+
+-- each check of a table holds
+abbrev pub Held : List Check → Type 0
+Held [] = Unit {0}
+Held (c ∷ cs) = Holds c × Held cs
+
+within : (c : Check) (a b : Bool) → a ≡ ltb (c .3) (c .4) → b ≡ ltb (c .5) (c .3) → (v : Verdict) → cond (a || b) (Refused c) v ≡ Fine → Holds c × (v ≡ Fine)
+within c true b p q v e = clash e
+within c false true p q v e = clash e
+within c false false p q v e =
+    (record { least = omega (arith, ltb-false (c .3) (c .4) (sym p)); most = omega (arith, ltb-false (c .5) (c .3) (sym q)) }, e)
+
+pub held : (t : List Check) → first t ≡ Fine → Held t
+held [] e = tt
+held (c ∷ cs) e =
+    let both = within c _ _ refl refl (first cs) e in
+    (both .0, held cs (both .1))
+
+-- ---- something is broken
+
+-- what a table's refusal says: the check stands there, it is broken, and each before it holds
+pub record FirstBroken (t : List Check) (c : Check) : Type 0 where
+  pub before : List Check
+  pub after : List Check
+  pub stands : t ≡ before ++ (c ∷ after)
+  pub earlier : Held before
+  pub breaks : broken c ≡ true
+
+pub first-broken : (t : List Check) (c : Check) → first t ≡ Refused c → FirstBroken t c
+first-broken [] c e = clash (sym e)
+first-broken (d ∷ ds) c e = pick (broken d) refl (first-broken ds c)
+  where
+    pick : (b : Bool) → b ≡ broken d → (first ds ≡ Refused c → FirstBroken ds c) → FirstBroken (d ∷ ds) c
+    pick true p later =
+        let q : d ≡ c = cc in
+        record { before = []; after = ds; stands = rw q; earlier = tt; breaks = rw q at (sym p) }
+    pick false p later =
+        let l = later (rw (← p) at e) in
+        record { before = d ∷ (l .before); after = l .after; stands = (λ i. d ∷ l .stands i); earlier = (held (d ∷ []) (rw (← p)) .0, l .earlier); breaks = l .breaks }

@@ -1,0 +1,11 @@
+use mathlib.Core.Path.{_∙_}
+use borrow.Author.Needs.{needs}
+use Rattle.segments.proofs.components.depth_row.Statement.{statement}
+use Rattle.segments.proofs.components.depth_row.Tie as tie
+
+returns : tie.Need-returns
+returns c =
+    c .first .ensures ∙ rw (c .before .choose2 .ensures, c .before .before .before .choose .ensures)
+
+pub depth-row-spec : {M : Type 1} → statement M
+depth-row-spec = tie.close (tie.spec (λ c κs. search needs) (λ c κs. search needs) (λ c κs. search needs) returns)

@@ -1,0 +1,222 @@
+// The component table.
+use crate::numbers::ceil;
+use crate::numbers::larger;
+use crate::numbers::less;
+use crate::numbers::power;
+use crate::numbers::remainder;
+use picture::picture::Picture;
+use picture::picture::bits_at;
+use rows::AMPLE;
+use rows::Check;
+use rows::Field;
+use rows::HOLDS;
+use rows::Row;
+use rows::Verdict;
+ghost use mathlib.Core.Path.{_≡_};
+ghost use mathlib.Core.Bool.{cond};
+ghost use Prim.Native.Nat.{_+_, _*_, _/_, _%_, _≤_, _<_, _^_};
+ghost use Rattle.rows.specs.Rows.{first};
+ghost use Rattle.bits.specs.Fields.{IsField};
+ghost use Rattle.picture.specs.Picture.{Built};
+ghost use Rattle.segments.specs.Components.{componentAt, widest, columnUnit, depthChecks, levelChecks, filterChecks, sxChecks, syChecks, acrossChecks, downChecks, componentChecks, componentsChecks, IsComponent};
+
+pub struct Component {
+    pub depth: usize,
+    pub sx: usize,
+    pub sy: usize,
+}
+
+pub fn sx_at(s: &[u8], p: usize, c: usize) -> usize
+    requires { ⌜ (p < 2 ^ 32) × (c < 256) ⌝ }
+    ensures { λ r. ⌜ IsField (now (s .entry)) (8 * (p + 5 + 2 * c) + 0) 4 r ⌝ }
+{
+    bits_at(s, p + 5 + 2 * c, 0, 4)
+}
+
+pub fn sy_at(s: &[u8], p: usize, c: usize) -> usize
+    requires { ⌜ (p < 2 ^ 32) × (c < 256) ⌝ }
+    ensures { λ r. ⌜ IsField (now (s .entry)) (8 * (p + 5 + 2 * c) + 4) 4 r ⌝ }
+{
+    bits_at(s, p + 5 + 2 * c, 4, 4)
+}
+
+impl Component {
+    // Component c of the table at p.
+    pub fn read(s: &[u8], p: usize, c: usize) -> Self
+        requires { ⌜ (p < 2 ^ 32) × (c < 256) ⌝ }
+        ensures { λ r. ⌜ IsComponent (now (s .entry)) p c r ⌝ }
+    {
+        Self {
+            depth: bits::u8_at(s, p + 4 + 2 * c),
+            sx: sx_at(s, p, c),
+            sy: sy_at(s, p, c),
+        }
+    }
+}
+
+// The greatest sx of n components.
+fn widest(s: &[u8], p: usize, n: usize) -> usize
+    requires { ⌜ (p < 2 ^ 32) × (n < 256) ⌝ }
+    ensures { λ r. ⌜ (r ≡ widest (now (s .entry)) p n) × (r < 16) ⌝ }
+{
+    let mut m = 0;
+    let mut c = 0;
+    while c < n {
+        m = larger(m, sx_at(s, p, c));
+        c += 1;
+    }
+    m
+}
+
+fn depth_row(h: Picture, place: usize, k: Component) -> Verdict
+    ensures { λ r. ⌜ r ≡ first (depthChecks h place k) ⌝ }
+{
+    let least = rows::choose(h.fq == 0, h.bw, 8);
+    let most = rows::choose(h.fq == 0, h.bw, 16);
+    rows::first([
+        Check(Row::Value, place, Field::B, k.depth, 8, 16),
+        Check(Row::Value, place, Field::B, k.depth, least, most),
+        HOLDS,
+        HOLDS,
+        HOLDS,
+        HOLDS,
+        HOLDS,
+        HOLDS,
+    ])
+}
+
+// Two samples to each filter: n samples, halved from level to level.
+fn filter_row(field: Field, place: usize, n: usize, levels: usize) -> Verdict
+    requires { ⌜ (n < 2 ^ 32) × (levels < 32) ⌝ }
+    ensures { λ r. ⌜ r ≡ first (filterChecks field place n levels) ⌝ }
+{
+    let mut v = Verdict::Fine;
+    let mut d = 0;
+    while d < levels {
+        v = rows::then(v, level_row(field, place, n, d));
+        d += 1;
+    }
+    v
+}
+
+fn level_row(field: Field, place: usize, n: usize, d: usize) -> Verdict
+    requires { ⌜ (n < 2 ^ 32) × (d < 32) ⌝ }
+    ensures { λ r. ⌜ r ≡ first (levelChecks field place n d) ⌝ }
+{
+    let across = ceil(n, power(d));
+    rows::first([
+        Check(Row::Lacking, place, field, across, 2, AMPLE),
+        HOLDS,
+        HOLDS,
+        HOLDS,
+        HOLDS,
+        HOLDS,
+        HOLDS,
+        HOLDS,
+    ])
+}
+
+// Precinct columns are multiples of this many grid points.
+fn column_unit(h: Picture, m: usize) -> usize
+    requires { ⌜ Built h × (m < 16) ⌝ }
+    ensures { λ r. ⌜ (r ≡ columnUnit h m) × (r < 512) ⌝ }
+{
+    m * power(h.nlx)
+}
+
+// What is left of the width for the last column.
+fn last_column(h: Picture, unit: usize) -> usize
+    requires { ⌜ Built h × (unit < 512) ⌝ }
+    ensures { λ r. ⌜ r ≡ h .wf % (8 * h .cw * unit) ⌝ }
+{
+    remainder(h.wf, 8 * h.cw * unit)
+}
+
+fn sx_row(h: Picture, place: usize, c: usize, m: usize, k: Component) -> Verdict
+    requires { ⌜ Built h × (c < 256) × (m < 16) ⌝ }
+    ensures { λ r. ⌜ r ≡ first (sxChecks h place c m k) ⌝ }
+{
+    let most = rows::choose((c == 1) | (c == 2), 2, 1);
+    let colour = rows::choose(h.cpih == 1, 1, 2);
+    let unit = column_unit(h, m);
+    let last = last_column(h, unit);
+    let least = rows::choose((c + 1 == h.nc) & (0 < h.cw), unit, 0);
+    rows::first([
+        Check(Row::Value, place, Field::Sx, k.sx, 1, most),
+        Check(Row::Value, place, Field::Sx, k.sx, 1, colour),
+        Check(Row::Value, place, Field::Cw, last, least, AMPLE),
+        HOLDS,
+        HOLDS,
+        HOLDS,
+        HOLDS,
+        HOLDS,
+    ])
+}
+
+fn across_row(h: Picture, place: usize, c: usize, m: usize, k: Component) -> Verdict
+    requires { ⌜ Built h × (c < 256) × (m < 16) × (k .sx < 16) ⌝ }
+    ensures { λ r. ⌜ r ≡ first (acrossChecks h place c m k) ⌝ }
+{
+    let samples = ceil(h.wf, k.sx);
+    rows::then(
+        sx_row(h, place, c, m, k),
+        filter_row(Field::Sx, place, samples, h.nlx),
+    )
+}
+
+fn sy_row(h: Picture, place: usize, k: Component) -> Verdict
+    requires { ⌜ Built h ⌝ }
+    ensures { λ r. ⌜ r ≡ first (syChecks h place k) ⌝ }
+{
+    let colour = rows::choose(h.cpih == 1, 1, 2);
+    let levels = power(h.nly);
+    rows::first([
+        Check(Row::Value, place, Field::Sy, k.sy, 1, k.sx),
+        Check(Row::Value, place, Field::Sy, k.sy, 1, colour),
+        Check(Row::Value, place, Field::Sy, k.sy, 1, levels),
+        HOLDS,
+        HOLDS,
+        HOLDS,
+        HOLDS,
+        HOLDS,
+    ])
+}
+
+fn down_row(h: Picture, place: usize, k: Component) -> Verdict
+    requires { ⌜ Built h × (k .sy < 16) ⌝ }
+    ensures { λ r. ⌜ r ≡ first (downChecks h place k) ⌝ }
+{
+    let samples = ceil(h.hf, k.sy);
+    let levels = less(h.nly, k.sy / 2);
+    rows::then(
+        sy_row(h, place, k),
+        filter_row(Field::Sy, place, samples, levels),
+    )
+}
+
+fn component_row(h: Picture, p: usize, c: usize, m: usize, k: Component) -> Verdict
+    requires { ⌜ Built h × (p < 2 ^ 32) × (c < 256) × (m < 16) × (k .sx < 16) × (k .sy < 16) ⌝ }
+    ensures { λ r. ⌜ r ≡ first (componentChecks h p c m k) ⌝ }
+{
+    let depth = depth_row(h, p + 4 + 2 * c, k);
+    let across = across_row(h, p + 5 + 2 * c, c, m, k);
+    let down = down_row(h, p + 5 + 2 * c, k);
+    rows::then(depth, rows::then(across, down))
+}
+
+// All components of the table at p.
+pub fn components_row(s: &[u8], h: Picture, p: usize) -> Verdict
+    requires { ⌜ Built h × (p < 2 ^ 32) ⌝ }
+    ensures { λ r. ⌜ r ≡ first (componentsChecks (now (s .entry)) h p) ⌝ }
+{
+    let nc = h.nc;
+    let m = widest(s, p, nc);
+    let mut v = Verdict::Fine;
+    let mut c = 0;
+    while c < nc {
+        let k = Component::read(s, p, c);
+        v = rows::then(v, component_row(h, p, c, m, k));
+        c += 1;
+    }
+    v
+}

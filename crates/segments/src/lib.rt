@@ -1,0 +1,5 @@
+// The segments between the picture header and the first slice header.
+pub mod bands;
+pub mod components;
+pub mod numbers;
+pub mod weights;
