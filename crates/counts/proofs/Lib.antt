@@ -1,0 +1,2 @@
+-- Laws of codes, of groups and of lines.
+pub mod Codes

@@ -1,0 +1,108 @@
+-- Table C.8: the bitplane counts of one line of one band, in the work cells.
+use Prim.Native.Nat.{ℕ, _+_, _-_, _*_, _/_, _%_, _^_, _≤_, _<_}
+use mathlib.Core.Path.{_≡_}
+use mathlib.Core.Bool.{Bool, cond, _&&_}
+use mathlib.Core.List.{List}
+use lib.Dec.{ltb, eqb}
+use lib.IntN.{ℤ, pos}
+use lib.ListN.{set}
+use Rattle.loops.specs.Run.{Turn, go, stop, run}
+use Rattle.whole.specs.Cells.{cell}
+use Rattle.whole.specs.Numbers.{ceilDiv}
+use Rattle.whole.proofs.Linear.{up}
+use Rattle.bits.specs.Fields.{bitAt}
+use Rattle.counts.specs.Groups.{unpackRaw, unpackNopred, unpackVertical}
+use Rattle.counts.specs.declared.group.Coding.{Coding}
+use Rattle.counts.specs.declared.group.Mode.{Mode}
+use Rattle.counts.specs.declared.group.Mode.the-variants.{Raw, NoPrediction, Vertical}
+use Rattle.counts.specs.declared.group.Group.{Group}
+use Rattle.counts.specs.declared.group.Group.the-variants.{Count, Cut as CutCode, High as HighCode}
+use Rattle.counts.specs.declared.Place.{Place}
+use Rattle.counts.specs.declared.Line.{Line}
+use Rattle.counts.specs.declared.Line.the-variants.{Done, Cut, High}
+
+-- ---- a count cell
+
+-- what a group's cell holds: its bitplane count M and its truncation position T
+abbrev pub packed : ℕ → ℕ → ℤ
+packed m t = pos (m + 32 * t)
+
+-- M and T of a cell, whatever it holds
+abbrev pub heldM : ℤ → ℕ
+heldM z = up z % 32
+
+abbrev pub heldT : ℤ → ℕ
+heldT z = up z / 32 % 32
+
+-- B.8: the code groups of a line, of Ng = 4 coefficients each
+abbrev pub groups : Place → ℕ
+groups p = ceilDiv (p .width) 4
+
+-- the count cell of code group g stands behind its first coefficient
+abbrev pub countCell : Place → ℕ → ℕ
+countCell p g = p .first + 4 * g * p .stride + p .area
+
+-- ---- a group in its place
+
+-- Tables C.15 and C.16: (D & 2) == 0 || Z[⌊g / Ss⌋] == 0 says that the Δm of group g is coded, with Ss = 8. The line's Z stand from bit z on
+abbrev pub insignificant : List ℕ → Coding → ℕ → ℕ → Bool
+insignificant sig c z g = c .flags && eqb (bitAt sig (z + g / 8)) 1
+
+-- Table C.13: the predictors are M and T of the same group one line up
+abbrev pub above : Place → ℕ → List ℤ → ℤ
+above p g cells = cell cells (countCell p g - p .up)
+
+-- Table C.8: the count of group g, which stands at bit i of the stretch
+unfoldable pub unpack : List ℕ → List ℕ → Coding → Place → ℕ → ℕ → ℕ → List ℤ → Group
+unpack s sig c p z g i cells = by (c .mode)
+  where
+    by : Mode → Group
+    by Raw = unpackRaw s c i
+    by NoPrediction = unpackNopred s c (insignificant sig c z g) i
+    by Vertical = unpackVertical s c (insignificant sig c z g) (heldM (above p g cells)) (heldT (above p g cells)) i
+
+-- ---- the line
+
+-- Table C.9: the nibbles of data of a group, which are M − T planes and, where Fs = 0, the signs before them
+abbrev pub nibbles : Coding → ℕ → ℕ
+nibbles c m = cond (ltb (c .t) m) (m - c .t + cond (c .signs) 1 0) 0
+
+-- the next bit, the nibbles so far, and the cells
+abbrev pub State : Type 0
+State = ℕ × ℕ × List ℤ
+
+-- what a line leaves
+abbrev pub Left : Type 0
+Left = Line × List ℤ
+
+-- a group's count goes to its cell, and a refusal ends the line
+abbrev pub stored : Coding → ℕ → State → Group → Turn State Left
+stored c to x (Count m next) = go (next, x .1 + nibbles c m, set (x .2) to (packed m (c .t)))
+stored c to x CutCode = stop (Cut, x .2)
+stored c to x HighCode = stop (High, x .2)
+
+unfoldable pub turn : List ℕ → List ℕ → Coding → Place → ℕ → ℕ → State → Turn State Left
+turn s sig c p z g x = stored c (countCell p g) x (unpack s sig c p z g (x .0) (x .2))
+
+abbrev pub end : State → Left
+end x = (Done (x .0) (x .1), x .2)
+
+-- the line's groups from bit i of the stretch on
+abbrev pub lineCounts : List ℕ → List ℕ → Coding → Place → ℕ → ℕ → List ℤ → Left
+lineCounts s sig c p i z cells = run (turn s sig c p z) end (groups p) 0 (i, 0, cells)
+
+-- document 01's number of an answer
+abbrev pub row : Line → ℕ
+row (Done next need) = 0
+row Cut = 6
+row High = 7
+
+-- ---- what the reader asks: a stretch of `bytes` bytes, and n cells that hold the line and, for vertical prediction, the line above it
+pub record Ready (c : Coding) (p : Place) (bytes z n : ℕ) : Type 0 where
+  pub br : c .br ≤ 5
+  pub t : c .t ≤ 31
+  pub short : bytes < 2 ^ 56
+  pub narrow : p .width < 2 ^ 56
+  pub near : z < 2 ^ 60
+  pub inside : (x : ℕ) → x < p .width → p .first + x * p .stride + p .area < n
+  pub above : c .mode ≡ Vertical → p .up ≤ p .first

@@ -1,0 +1,119 @@
+// C.6.3 to C.6.6: the bitplane count of one code group.
+ghost use mathlib.Core.Path.{_≡_};
+ghost use Prim.Native.Nat.{_+_, _*_, _^_, _≤_, _<_, max};
+ghost use lib.IntN.{pos};
+ghost use lib.ListN.{length};
+ghost use Rattle.counts.specs.Groups.{counted, coded, unpackRaw, unpackNopred, unpackVertical, Limit};
+
+// Table C.8: Dr[p,s] = 1; else D[p,b] & 1.
+pub enum Mode {
+    Raw,
+    NoPrediction,
+    Vertical,
+}
+
+// How the counts of a line are coded: `flags` where D[p,b] & 2, `run` where Rm = 1, `signs` where Fs = 0, T[p,b] and Br.
+pub struct Coding {
+    pub mode: Mode,
+    pub flags: bool,
+    pub run: bool,
+    pub signs: bool,
+    pub t: usize,
+    pub br: usize,
+}
+
+// What reading a group finds: its count with the bit past its code, that the stretch's end cuts the code, or that the count is out of range.
+pub enum Group {
+    Count(usize, usize),
+    Cut,
+    High,
+}
+
+fn in_range(m: usize, next: usize) -> Group
+    ensures { λ r. ⌜ r ≡ counted (pos m) next ⌝ }
+{
+    if m <= 31 {
+        Group::Count(m, next)
+    } else {
+        Group::High
+    }
+}
+
+// 2^(Br+1), the number of 1-bits that is too many.
+fn too_many(br: usize) -> usize
+    requires { ⌜ br ≤ 5 ⌝ }
+    ensures { λ r. ⌜ Limit br r ⌝ }
+{
+    1 << (br + 1)
+}
+
+// The predictor mtop, moved by the code at the bit i.
+fn read_code(s: &[u8], c: Coding, mtop: usize, i: usize) -> Group
+    requires { ⌜ (length (now s) < 2 ^ 56) × (c .br ≤ 5) × (mtop ≤ 31) ⌝ }
+    ensures { λ r. ⌜ r ≡ coded (now (s .entry)) c mtop i ⌝ }
+{
+    let all = 8 * s.len();
+    if all <= i {
+        return Group::Cut;
+    }
+    let limit = too_many(c.br);
+    let n = crate::code::ones_from(s, i, limit);
+    if limit <= n {
+        return Group::High;
+    }
+    if all <= i + n {
+        return Group::Cut;
+    }
+    in_range(crate::code::moved(mtop, c.t, n), i + n + 1)
+}
+
+// Table C.14.
+fn read_raw(s: &[u8], c: Coding, i: usize) -> Group
+    requires { ⌜ (length (now s) < 2 ^ 56) × (c .br ≤ 5) ⌝ }
+    ensures { λ r. ⌜ r ≡ unpackRaw (now (s .entry)) c i ⌝ }
+{
+    let all = 8 * s.len();
+    let br = c.br;
+    if all < i {
+        return Group::Cut;
+    }
+    if all - i < br {
+        return Group::Cut;
+    }
+    in_range(bits::field(s, i, br), i + br)
+}
+
+// Table C.16.
+fn read_nopred(s: &[u8], c: Coding, insignificant: bool, i: usize) -> Group
+    requires { ⌜ (length (now s) < 2 ^ 56) × (c .br ≤ 5) × (c .t ≤ 31) ⌝ }
+    ensures { λ r. ⌜ r ≡ unpackNopred (now (s .entry)) c insignificant i ⌝ }
+{
+    if insignificant {
+        in_range(c.t, i)
+    } else {
+        read_code(s, c, c.t, i)
+    }
+}
+
+fn larger(a: usize, b: usize) -> usize
+    ensures { λ r. ⌜ r ≡ max a b ⌝ }
+{
+    if a < b { b } else { a }
+}
+
+// Table C.15, below a group with the count m_above and the truncation position t_above.
+fn read_vertical(s: &[u8], c: Coding, insignificant: bool, m_above: usize, t_above: usize, i: usize) -> Group
+    requires { ⌜ (length (now s) < 2 ^ 56) × (c .br ≤ 5) × (c .t ≤ 31) × («m_above» ≤ 31) × («t_above» ≤ 31) ⌝ }
+    ensures { λ r. ⌜ r ≡ unpackVertical (now (s .entry)) c insignificant «m_above» «t_above» i ⌝ }
+{
+    let mtop = larger(m_above, larger(c.t, t_above));
+    if insignificant {
+        if c.run {
+            in_range(c.t, i)
+        } else {
+            in_range(mtop, i)
+        }
+    } else {
+        read_code(s, c, mtop, i)
+    }
+}
