@@ -1,0 +1,2 @@
+-- Laws of the definitions, and the lemmas of the code's proofs.
+pub mod Planes

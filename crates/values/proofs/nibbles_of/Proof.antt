@@ -1,0 +1,23 @@
+-- `values::nibbles_of` meets its contract: the tests pick the case. Assumes nothing.
+use native.Mathlib.Omega.{arith}
+use borrow.Author.Needs.{needs}
+use borrow.Author.Tests.{lt-ltb, le-ltb}
+use Rattle.values.specs.Group.{nibblesOf}
+use Rattle.values.proofs.nibbles_of.Statement.{statement}
+use Rattle.values.proofs.nibbles_of.Tie as tie
+
+returns : tie.Need-returns
+unfolding nibblesOf
+returns c = rw (le-ltb _ _ (c .if1 .taken))
+
+returns-2 : tie.Need-returns-2
+unfolding nibblesOf
+returns-2 c = rw (lt-ltb _ _ (c .before .if1 .left), c .if2 .taken) (omega arith)
+
+returns-3 : tie.Need-returns-3
+unfolding nibblesOf
+returns-3 c = rw (lt-ltb _ _ (c .before .if1 .left), c .if2 .left) (omega arith)
+
+pub nibbles-of-spec : {M : Type 1} → statement M
+nibbles-of-spec =
+    tie.close (tie.spec returns (λ c. search needs) (λ c. search needs) (λ c. search needs) returns-2 returns-3)

@@ -1,0 +1,193 @@
+// One line of one band: from the data and sign subpackets (C.5.4, C.5.5) through the inverse quantiser (Annex D) into the coefficient cells.
+ghost use mathlib.Core.Bool.{cond};
+ghost use mathlib.Core.Path.{_≡_};
+ghost use Prim.Native.Nat.{_+_, _-_, _*_, _/_, _%_, _≤_, _<_, _^_, min};
+ghost use lib.Dec.{eqb};
+ghost use lib.ListN.{length};
+ghost use Rattle.whole.specs.Numbers.{signed};
+ghost use Rattle.values.specs.Group.{CountIs, Magnitudes, GroupFit, nibblesOf, signField, groupValues};
+ghost use Rattle.values.specs.Line.{Fit, lineValues};
+
+// Where a line stands in the cells, and its precinct's truncation position in its band. Coefficient x has the cell first + x·stride, and the count
+// cell of a code group stands `area` cells behind that of its first coefficient.
+pub struct Line {
+    pub first: usize,
+    pub stride: usize,
+    pub width: usize,
+    pub area: usize,
+    pub t: usize,
+}
+
+// What the picture header chooses: the uniform quantiser or the deadzone one, signs in a subpacket of their own (Fs = 1) or with the data,
+// and the bits behind the point, Fq.
+pub struct Coding {
+    pub uniform: bool,
+    pub fs: bool,
+    pub fq: usize,
+}
+
+// What comes next: a nibble of the data stretch, and a bit of the sign stretch.
+pub struct Next {
+    pub at: usize,
+    pub sign: usize,
+}
+
+// The bitplane count in a count cell.
+fn count_in(z: i64) -> usize
+    ensures { λ r. ⌜ CountIs z r ⌝ }
+{
+    if z < 0 { 0 } else { z as usize % 32 }
+}
+
+// The difference, and 0 where there is none.
+fn less(a: usize, b: usize) -> usize
+    ensures { λ r. ⌜ r ≡ a - b ⌝ }
+{
+    if b < a { a - b } else { 0 }
+}
+
+fn smaller(a: usize, b: usize) -> usize
+    ensures { λ r. ⌜ r ≡ min a b ⌝ }
+{
+    if b < a { b } else { a }
+}
+
+fn chosen(which: bool, a: usize, b: usize) -> usize
+    ensures { λ r. ⌜ r ≡ cond which a b ⌝ }
+{
+    if which { a } else { b }
+}
+
+// The nibbles that a group takes of the data stretch.
+fn nibbles_of(m: usize, t: usize, fs: bool) -> usize
+    requires { ⌜ m ≤ 31 ⌝ }
+    ensures { λ r. ⌜ r ≡ nibblesOf m t fs ⌝ }
+{
+    if m <= t {
+        return 0;
+    }
+    if fs { m - t } else { m - t + 1 }
+}
+
+// The sizes of a group's coefficients, from n bitplanes.
+fn magnitudes(dat: &[u8], from: usize, n: usize) -> [usize; 4]
+    requires { ⌜ (n ≤ 31) × (from ≤ 2 ^ 63) ⌝ }
+    ensures { λ r. ⌜ Magnitudes (now (dat .entry)) from n r ⌝ }
+{
+    let mut v0: usize = 0;
+    let mut v1: usize = 0;
+    let mut v2: usize = 0;
+    let mut v3: usize = 0;
+    let mut j: usize = 0;
+    while j < n {
+        let plane = bits::nibble(dat, from + j);
+        v0 = 2 * v0 + plane / 8;
+        v1 = 2 * v1 + plane / 4 % 2;
+        v2 = 2 * v2 + plane / 2 % 2;
+        v3 = 2 * v3 + plane % 2;
+        j += 1;
+    }
+    [v0, v1, v2, v3]
+}
+
+// The four bits in which a group's signs begin: the next of the sign stretch, or the nibble before its planes.
+fn sign_field(dat: &[u8], sgn: &[u8], fs: bool, next: Next) -> usize
+    ensures { λ r. ⌜ r ≡ signField (now (dat .entry)) (now (sgn .entry)) fs (next .at) (next .sign) ⌝ }
+{
+    if fs {
+        bits::field(sgn, next.sign, 4)
+    } else {
+        bits::nibble(dat, next.at)
+    }
+}
+
+// 1 where a sign goes with the size v.
+fn sign_bit(v: usize) -> usize
+    ensures { λ r. ⌜ r ≡ cond (eqb v 0) 0 1 ⌝ }
+{
+    if v == 0 { 0 } else { 1 }
+}
+
+// The index of a sign bit and a size.
+fn signed_index(sign: usize, v: usize) -> i64
+    requires { ⌜ v < 2 ^ 31 ⌝ }
+    ensures { λ r. ⌜ r ≡ signed (eqb sign 1) v ⌝ }
+{
+    let size = v as i64;
+    if sign == 1 { -size } else { size }
+}
+
+// The part of a code group that the line has: `count` coefficients, of which k has the cell first + k·stride.
+struct Group {
+    first: usize,
+    stride: usize,
+    count: usize,
+    m: usize,
+    t: usize,
+}
+
+// The coefficients of a group into their cells. Signs stand for all four sizes that are not 0, also for those that have no cell.
+fn group_values(
+    dat: &[u8],
+    sgn: &[u8],
+    cells: &mut [i64],
+    how: Coding,
+    group: Group,
+    next: Next,
+) -> Next
+    requires { ⌜ GroupFit how group next (length (now cells)) ⌝ }
+    ensures { λ r. ⌜ groupValues (now (dat .entry)) (now (sgn .entry)) how group next (now (cells .entry)) ≡ (r, now (cells .exit)) ⌝ }
+{
+    let v = magnitudes(dat, next.at + chosen(how.fs, 0, 1), less(group.m, group.t));
+    let bits = sign_field(dat, sgn, how.fs, next);
+    let mut used: usize = 0;
+    let mut k: usize = 0;
+    while k < group.count {
+        let sign = (bits >> (3 - chosen(how.fs, used, k))) % 2;
+        let size = v[k];
+        cells[group.first + k * group.stride] = quantiser::scaled_coefficient(
+            how.uniform,
+            group.m as u64,
+            group.t as u64,
+            how.fq as u64,
+            signed_index(sign, size),
+        );
+        used += sign_bit(size);
+        k += 1;
+    }
+    let all = sign_bit(v[0]) + sign_bit(v[1]) + sign_bit(v[2]) + sign_bit(v[3]);
+    Next {
+        at: next.at + nibbles_of(group.m, group.t, how.fs),
+        sign: next.sign + chosen(how.fs, all, 0),
+    }
+}
+
+// A line. Bits past the end of a stretch read as 0: whether they are there is judged above.
+pub fn line_values(
+    dat: &[u8],
+    sgn: &[u8],
+    cells: &mut [i64],
+    how: Coding,
+    line: Line,
+    from: Next,
+) -> Next
+    requires { ⌜ Fit how line from (length (now cells)) ⌝ }
+    ensures { λ r. ⌜ lineValues (now (dat .entry)) (now (sgn .entry)) how line from (now (cells .entry)) ≡ (r, now (cells .exit)) ⌝ }
+{
+    let groups = (line.width + 3) / 4;
+    let mut next = from;
+    let mut g: usize = 0;
+    while g < groups {
+        let first = line.first + 4 * g * line.stride;
+        let group = Group {
+            first: first,
+            stride: line.stride,
+            count: smaller(4, line.width - 4 * g),
+            m: count_in(cells[first + line.area]),
+            t: line.t,
+        };
+        next = group_values(dat, sgn, cells, how, group, next);
+        g += 1;
+    }
+    next
+}
