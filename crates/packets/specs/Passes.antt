@@ -1,0 +1,92 @@
+-- The passes over the lines of a packet (Tables C.6, C.8, C.9 and C.10). Line j is candidate j of the packet's slot; one that the precinct does not have
+-- is passed over.
+use Prim.Native.Nat.{ℕ, zero, suc, _+_, _*_, _/_, _%_}
+use mathlib.Core.Bool.{Bool, true, false, not, cond, _&&_}
+use mathlib.Core.List.{List}
+use lib.Dec.{eqb}
+use lib.IntN.{ℤ}
+use Rattle.loops.specs.Run.{Turn, go, stop, run}
+use Rattle.layout.specs.Slots.{line-at, candidates}
+use Rattle.layout.specs.declared.Line.{Line}
+use Rattle.counts.specs.declared.group.Coding.{Coding}
+use Rattle.counts.specs.declared.group.Mode.{Mode}
+use Rattle.counts.specs.declared.group.Mode.the-variants.{Raw, NoPrediction, Vertical}
+use Rattle.counts.specs.declared.Place.{Place}
+use Rattle.counts.specs.declared.Line.{Line as Counted}
+use Rattle.counts.specs.declared.Line.the-variants.{Done, Cut, High}
+use Rattle.counts.specs.Lines.{lineCounts}
+use Rattle.values.specs.declared.Line.{Line as Valued}
+use Rattle.values.specs.declared.Coding.{Coding as Values}
+use Rattle.values.specs.declared.Next.{Next}
+use Rattle.values.specs.Line.{lineValues}
+use Rattle.packets.specs.declared.Setting.{Setting}
+use Rattle.packets.specs.declared.Precinct.{Precinct}
+use Rattle.packets.specs.Precincts.{D, T}
+
+module _ (s : List ℕ) (c : Setting) (p : Precinct) (slot : ℕ) where
+  abbrev pub line : ℕ → Line
+  line j = line-at (c .shape) (p .row) (p .column) slot j
+
+  -- ---- Table C.6: Z is there for a line where Dr = 0 and D & 2
+
+  abbrev pub marked : Bool → ℕ → Bool
+  marked raw j = line j .present && not raw && eqb (D s c p (line j .band) / 2) 1
+
+  -- the significance flags of the lines below j, and the bytes of all
+  unfoldable pub marks : Bool → ℕ → ℕ
+  marks raw zero = 0
+  marks raw (suc j) = marks raw j + cond (marked raw j) (line j .marks) 0
+
+  -- ---- Table C.8
+
+  abbrev pub modeOf : Bool → ℕ → Mode
+  modeOf raw d = cond raw Raw (cond (eqb (d % 2) 0) NoPrediction Vertical)
+
+  abbrev pub codingOf : Bool → ℕ → Coding
+  codingOf raw b =
+      record {
+        mode = modeOf raw (D s c p b);
+        flags = eqb (D s c p b / 2) 1;
+        run = c .rm;
+        signs = not (c .fs);
+        t = T c p b;
+        br = c .br;
+      }
+
+  abbrev pub placeOf : Line → Place
+  placeOf l = record { first = l .cell; stride = l .stride; width = l .width; area = l .area; up = l .up }
+
+  -- the next bit of the counts, the nibbles of data that they ask for, and the cells
+  abbrev pub Counting : Type 0
+  Counting = ℕ × ℕ × List ℤ
+
+  abbrev pub counted : ℕ → Counted × List ℤ → Turn Counting (Counted × List ℤ)
+  counted need (Done next more, cells) = go (next, need + more, cells)
+  counted need (Cut, cells) = stop (Cut, cells)
+  counted need (High, cells) = stop (High, cells)
+
+  unfoldable pub countTurn : List ℕ → List ℕ → Bool → ℕ → Counting → Turn Counting (Counted × List ℤ)
+  countTurn cnt sig raw j x =
+      cond (line j .present)
+      (counted (x .1) (lineCounts cnt sig (codingOf raw (line j .band)) (placeOf (line j)) (x .0) (marks raw j) (x .2)))
+      (go x)
+
+  -- all lines of the packet, from the stretch of the counts and that of the significance flags
+  unfoldable pub packetCounts : List ℕ → List ℕ → Bool → List ℤ → Counted × List ℤ
+  packetCounts cnt sig raw cells =
+      run (countTurn cnt sig raw) (λ x. (Done (x .0) (x .1), x .2)) (candidates (c .shape) slot) 0 (0, 0, cells)
+
+  -- ---- Tables C.9 and C.10, with Annex D
+
+  abbrev pub valuesOf : Values
+  valuesOf = record { uniform = c .uniform; fs = c .fs; fq = c .fq }
+
+  abbrev pub valued : Line → Valued
+  valued l = record { first = l .cell; stride = l .stride; width = l .width; area = l .area; t = T c p (l .band) }
+
+  unfoldable pub valueTurn : List ℕ → List ℕ → ℕ → Next × List ℤ → Turn (Next × List ℤ) (Next × List ℤ)
+  valueTurn dat sgn j x = go (cond (line j .present) (lineValues dat sgn valuesOf (valued (line j)) (x .0) (x .1)) x)
+
+  unfoldable pub packetValues : List ℕ → List ℕ → List ℤ → Next × List ℤ
+  packetValues dat sgn cells =
+      run (valueTurn dat sgn) (λ x. x) (candidates (c .shape) slot) 0 (record { at = 0; sign = 0 }, cells)
