@@ -1,4 +1,4 @@
--- Table A.2: the codes of the markers.
+-- Table A.2: the codes of the markers, and the type of the extension that is the bench caption.
 use Prim.Native.Nat.{ℕ}
 
 abbrev pub SOC : ℕ
@@ -45,3 +45,6 @@ SLI = 0xff21
 
 abbrev pub CAP : ℕ
 CAP = 0xff50
+
+abbrev pub CAPTION : ℕ
+CAPTION = 0x8b01

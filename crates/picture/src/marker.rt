@@ -1,4 +1,4 @@
-// The codes of Table A.2.
+// The codes of markers, Table A.2, and of extensions.
 pub struct Marker;
 
 impl Marker {
@@ -31,4 +31,11 @@ impl Marker {
     pub const SLI: usize = 0xff21;
 
     pub const CAP: usize = 0xff50;
+}
+
+pub struct Extension;
+
+impl Extension {
+    // the bench caption
+    pub const CAPTION: usize = 0x8b01;
 }

@@ -1,6 +1,7 @@
 // Refusals: a check and its range, the first broken check of a table, the verdict.
 ghost use mathlib.Core.Path.{_≡_};
 ghost use mathlib.Core.Bool.{cond};
+ghost use mathlib.Core.List.{[], _∷_};
 ghost use Rattle.rows.specs.Rows.{number, answer, placeOf, first, then};
 
 // The rows of document 01's table of refusal numbers, in its order.
@@ -172,6 +173,13 @@ pub fn first(t: [Check; 8]) -> Verdict
         i += 1;
     }
     Verdict::Fine
+}
+
+// A table of one check.
+pub fn one(c: Check) -> Verdict
+    ensures { λ r. ⌜ r ≡ first (c ∷ []) ⌝ }
+{
+    first([c, HOLDS, HOLDS, HOLDS, HOLDS, HOLDS, HOLDS, HOLDS])
 }
 
 // Two tables, one after the other: an earlier refusal stands.

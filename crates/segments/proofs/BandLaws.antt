@@ -93,7 +93,3 @@ module _ {h : Picture} (x : Built h) where
 pub existing-more : (is : ℕ → Bool) (b : ℕ) {n r : ℕ} → n ≡ existing is b → r ≡ cond (is b) 1 0 → n + r ≡ existing is (b + 1)
 unfolding existing
 existing-more is b e f = rw (add-one, e, f)
-
-pub one-at-most : (t : Bool) {r : ℕ} → r ≡ cond t 1 0 → r ≤ 1
-one-at-most true e = omega (arith, e)
-one-at-most false e = omega (arith, e)

@@ -1,3 +1,4 @@
 pub mod Bands
 pub mod Components
 pub mod Weights
+pub mod Segments

@@ -103,17 +103,8 @@ fn level_row(field: Field, place: usize, n: usize, d: usize) -> Verdict
     requires { ⌜ (n < 2 ^ 32) × (d < 32) ⌝ }
     ensures { λ r. ⌜ r ≡ first (levelChecks field place n d) ⌝ }
 {
-    let across = ceil(n, power(d));
-    rows::first([
-        Check(Row::Lacking, place, field, across, 2, AMPLE),
-        HOLDS,
-        HOLDS,
-        HOLDS,
-        HOLDS,
-        HOLDS,
-        HOLDS,
-        HOLDS,
-    ])
+    let joined = ceil(n, power(d));
+    rows::one(Check(Row::Lacking, place, field, joined, 2, AMPLE))
 }
 
 // Precinct columns are multiples of this many grid points.

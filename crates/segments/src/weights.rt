@@ -5,7 +5,6 @@ use crate::components::sy_at;
 use picture::picture::Picture;
 use rows::Check;
 use rows::Field;
-use rows::HOLDS;
 use rows::Row;
 use rows::Verdict;
 ghost use mathlib.Core.Path.{_≡_};
@@ -53,16 +52,7 @@ fn gain_row(s: &[u8], p: usize, k: usize) -> Verdict
 {
     let place = p + 4 + 2 * k;
     let gain = bits::u8_at(s, place);
-    rows::first([
-        Check(Row::Value, place, Field::G, gain, 0, 15),
-        HOLDS,
-        HOLDS,
-        HOLDS,
-        HOLDS,
-        HOLDS,
-        HOLDS,
-        HOLDS,
-    ])
+    rows::one(Check(Row::Value, place, Field::G, gain, 0, 15))
 }
 
 // The gains of n bands in the table at p.

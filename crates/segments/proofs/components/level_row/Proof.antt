@@ -17,7 +17,7 @@ returns : tie.Need-returns
 returns c =
     let a = c .before .before .before .args in
     let n = c .before .ceil .ensures ∙ (λ i. ceilDiv (a .n) (c .before .before .power .ensures i)) in
-    c .first .ensures ∙ (λ i. first (check Lacking (a .place) (a .field) (n i) 2 ample ∷ []))
+    c .one .ensures ∙ (λ i. first (check Lacking (a .place) (a .field) (n i) 2 ample ∷ []))
 
 pub level-row-spec : {M : Type 1} → statement M
 level-row-spec = tie.close (tie.spec (λ c κs. search needs) ceil-requires (λ c κs. search needs) returns)

@@ -5,7 +5,9 @@ use native.Mathlib.Omega.{arith}
 use denote.Ref.{now}
 use Rattle.segments.specs.Bands.{bands, existing}
 use Rattle.segments.specs.Weights.{bandIn}
-use Rattle.segments.proofs.BandLaws.{existing-more, one-at-most}
+use Rattle.segments.proofs.BandLaws.{existing-more}
+use Rattle.segments.proofs.NumberLaws.{cond-le}
+use lib.Dec.{lit≤}
 use borrow.Author.Needs.{needs}
 use Rattle.segments.proofs.weights.existing_bands.Statement.{statement}
 use Rattle.segments.proofs.weights.existing_bands.Tie as tie
@@ -30,14 +32,14 @@ band-exists-requires c κs =
 
 add-n : tie.Need-add-n Inv-loop μ-loop
 add-n c =
-    omega (arith, c .before .before .before .loop .inv .2, c .before .before .before .loop .inv .0, c .before .before .before .before .band-count .ensures .1, one-at-most (c .before .band-exists .result) (c .choose .ensures))
+    omega (arith, c .before .before .before .loop .inv .2, c .before .before .before .loop .inv .0, c .before .before .before .before .band-count .ensures .1, cond-le (c .before .band-exists .result) 1 0 1 (lit≤ tt) (lit≤ tt) (c .choose .ensures))
 
 loop-again : tie.Need-loop-again Inv-loop μ-loop
 loop-again c =
     let l = c .before .before .before .loop in
     let a = c .before .before .before .before .before .before .args in
     let r = c .choose .ensures ∙ (λ i. cond (c .before .band-exists .ensures i) 1 0) in
-    (omega arith, existing-more (bandIn (now (a .s)) (a .h) (a .cdt)) (l .b) (l .inv .1) r, omega (arith, l .inv .2, one-at-most (c .before .band-exists .result) (c .choose .ensures)))
+    (omega arith, existing-more (bandIn (now (a .s)) (a .h) (a .cdt)) (l .b) (l .inv .1) r, omega (arith, l .inv .2, cond-le (c .before .band-exists .result) 1 0 1 (lit≤ tt) (lit≤ tt) (c .choose .ensures)))
 
 returns : tie.Need-returns Inv-loop μ-loop
 returns c =

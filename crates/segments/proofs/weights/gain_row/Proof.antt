@@ -11,7 +11,7 @@ use Rattle.segments.proofs.weights.gain_row.Tie as tie
 returns : tie.Need-returns
 returns c =
     let a = c .before .before .before .args in
-    c .first .ensures ∙ (λ i. first (check Value (a .p + 4 + 2 * a .k) G (c .before .u8-at .ensures .value i) 0 15 ∷ []))
+    c .one .ensures ∙ (λ i. first (check Value (a .p + 4 + 2 * a .k) G (c .before .u8-at .ensures .value i) 0 15 ∷ []))
 
 pub gain-row-spec : {M : Type 1} → statement M
 gain-row-spec =
