@@ -1,2 +1,4 @@
 -- Laws of codes, of groups and of lines.
 pub mod Codes
+pub mod Groups
+pub mod Lines

@@ -13,28 +13,28 @@ use Rattle.counts.specs.declared.group.Group.{Group}
 use Rattle.counts.specs.declared.group.Group.the-variants.{Count, Cut, High}
 
 -- a count is 0 to 31, whatever Br is; any other is refused
-abbrev pub counted : ℤ → ℕ → Group
+unfoldable pub counted : ℤ → ℕ → Group
 counted (pos m) next = cond (leb m 31) (Count m next) High
 counted (negsuc m) next = High
 
 -- C.7.1: mtop + Δm for the code Δm = vlc(mtop, T) at bit i. The 2^(Br+1)th 1-bit is too many, whether or not bits follow; before it the
 -- stretch's end cuts the code
-abbrev pub coded : List ℕ → Coding → ℕ → ℕ → Group
-coded s c mtop i =
-    let n = ones s i (2 ^ (c .br + 1)) in
-    cond (leb (2 ^ (c .br + 1)) n)
+unfoldable pub coded : List ℕ → ℕ → ℕ → ℕ → ℕ → Group
+coded s br mtop t i =
+    let n = ones s i (2 ^ (br + 1)) in
+    cond (leb (2 ^ (br + 1)) n)
     High
     (cond (leb (8 * length s) (i + n))
     Cut
-    (counted (pos mtop +ℤ vlc mtop (c .t) n) (i + n + 1)))
+    (counted (pos mtop +ℤ vlc mtop t n) (i + n + 1)))
 
 -- Table C.14: M is u(Br)
-abbrev pub unpackRaw : List ℕ → Coding → ℕ → Group
-unpackRaw s c i = cond (leb (i + c .br) (8 * length s)) (counted (pos (field s i (c .br))) (i + c .br)) Cut
+abbrev pub unpackRaw : List ℕ → ℕ → ℕ → Group
+unpackRaw s br i = cond (leb (i + br) (8 * length s)) (counted (pos (field s i br)) (i + br)) Cut
 
 -- Table C.16: mtop is T, and Δm is 0 for a group that is insignificant
 abbrev pub unpackNopred : List ℕ → Coding → Bool → ℕ → Group
-unpackNopred s c insignificant i = cond insignificant (counted (pos (c .t) +ℤ pos 0) i) (coded s c (c .t) i)
+unpackNopred s c insignificant i = cond insignificant (counted (pos (c .t) +ℤ pos 0) i) (coded s (c .br) (c .t) (c .t) i)
 
 -- Table C.15, with M and T of the line above. Of a group that is insignificant, Δm is 0 where Rm = 0 and T − mtop where Rm = 1
 abbrev pub unpackVertical : List ℕ → Coding → Bool → ℕ → ℕ → ℕ → Group
@@ -42,7 +42,7 @@ unpackVertical s c insignificant Mtop Ttop i =
     let t = max (c .t) Ttop in
     let mtop = max Mtop t in
     let Δm = cond (c .run) (pos (c .t) -ℤ pos mtop) (pos 0) in
-    cond insignificant (counted (pos mtop +ℤ Δm) i) (coded s c mtop i)
+    cond insignificant (counted (pos mtop +ℤ Δm) i) (coded s (c .br) mtop (c .t) i)
 
 -- the number of 1-bits that is too many. The bound follows from Br ≤ 5, and stands beside it for the callers' sums
 pub record Limit (br r : ℕ) : Type 0 where

@@ -53,13 +53,10 @@ abbrev pub above : Place → ℕ → List ℤ → ℤ
 above p g cells = cell cells (countCell p g - p .up)
 
 -- Table C.8: the count of group g, which stands at bit i of the stretch
-unfoldable pub unpack : List ℕ → List ℕ → Coding → Place → ℕ → ℕ → ℕ → List ℤ → Group
-unpack s sig c p z g i cells = by (c .mode)
-  where
-    by : Mode → Group
-    by Raw = unpackRaw s c i
-    by NoPrediction = unpackNopred s c (insignificant sig c z g) i
-    by Vertical = unpackVertical s c (insignificant sig c z g) (heldM (above p g cells)) (heldT (above p g cells)) i
+unfoldable pub unpack : Mode → List ℕ → List ℕ → Coding → Place → ℕ → ℕ → ℕ → List ℤ → Group
+unpack Raw s sig c p z g i cells = unpackRaw s (c .br) i
+unpack NoPrediction s sig c p z g i cells = unpackNopred s c (insignificant sig c z g) i
+unpack Vertical s sig c p z g i cells = unpackVertical s c (insignificant sig c z g) (heldM (above p g cells)) (heldT (above p g cells)) i
 
 -- ---- the line
 
@@ -82,7 +79,7 @@ stored c to x CutCode = stop (Cut, x .2)
 stored c to x HighCode = stop (High, x .2)
 
 unfoldable pub turn : List ℕ → List ℕ → Coding → Place → ℕ → ℕ → State → Turn State Left
-turn s sig c p z g x = stored c (countCell p g) x (unpack s sig c p z g (x .0) (x .2))
+turn s sig c p z g x = stored c (countCell p g) x (unpack (c .mode) s sig c p z g (x .0) (x .2))
 
 abbrev pub end : State → Left
 end x = (Done (x .0) (x .1), x .2)
@@ -97,7 +94,14 @@ row (Done next need) = 0
 row Cut = 6
 row High = 7
 
--- ---- what the reader asks: a stretch of `bytes` bytes, and n cells that hold the line and, for vertical prediction, the line above it
+-- ---- what the readers ask and answer
+
+-- the bound follows from M ≤ 31, and stands beside the number for the callers' sums
+pub record Nibbles (c : Coding) (m r : ℕ) : Type 0 where
+  pub number : r ≡ nibbles c m
+  pub most : r ≤ 32
+
+-- what the line's reader asks: a stretch of `bytes` bytes, and n cells that hold the line and, for vertical prediction, the line above it
 pub record Ready (c : Coding) (p : Place) (bytes z n : ℕ) : Type 0 where
   pub br : c .br ≤ 5
   pub t : c .t ≤ 31

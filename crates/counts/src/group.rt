@@ -48,15 +48,15 @@ fn too_many(br: usize) -> usize
 }
 
 // The predictor mtop, moved by the code at the bit i.
-fn read_code(s: &[u8], c: Coding, mtop: usize, i: usize) -> Group
-    requires { ⌜ (length (now s) < 2 ^ 56) × (c .br ≤ 5) × (mtop ≤ 31) ⌝ }
-    ensures { λ r. ⌜ r ≡ coded (now (s .entry)) c mtop i ⌝ }
+fn read_code(s: &[u8], br: usize, mtop: usize, t: usize, i: usize) -> Group
+    requires { ⌜ (length (now s) < 2 ^ 56) × (br ≤ 5) × (mtop ≤ 31) ⌝ }
+    ensures { λ r. ⌜ r ≡ coded (now (s .entry)) br mtop t i ⌝ }
 {
     let all = 8 * s.len();
     if all <= i {
         return Group::Cut;
     }
-    let limit = too_many(c.br);
+    let limit = too_many(br);
     let n = crate::code::ones_from(s, i, limit);
     if limit <= n {
         return Group::High;
@@ -64,16 +64,15 @@ fn read_code(s: &[u8], c: Coding, mtop: usize, i: usize) -> Group
     if all <= i + n {
         return Group::Cut;
     }
-    in_range(crate::code::moved(mtop, c.t, n), i + n + 1)
+    in_range(crate::code::moved(mtop, t, n), i + n + 1)
 }
 
 // Table C.14.
-fn read_raw(s: &[u8], c: Coding, i: usize) -> Group
-    requires { ⌜ (length (now s) < 2 ^ 56) × (c .br ≤ 5) ⌝ }
-    ensures { λ r. ⌜ r ≡ unpackRaw (now (s .entry)) c i ⌝ }
+pub fn read_raw(s: &[u8], br: usize, i: usize) -> Group
+    requires { ⌜ (length (now s) < 2 ^ 56) × (br ≤ 5) ⌝ }
+    ensures { λ r. ⌜ r ≡ unpackRaw (now (s .entry)) br i ⌝ }
 {
     let all = 8 * s.len();
-    let br = c.br;
     if all < i {
         return Group::Cut;
     }
@@ -84,14 +83,14 @@ fn read_raw(s: &[u8], c: Coding, i: usize) -> Group
 }
 
 // Table C.16.
-fn read_nopred(s: &[u8], c: Coding, insignificant: bool, i: usize) -> Group
+pub fn read_nopred(s: &[u8], c: Coding, insignificant: bool, i: usize) -> Group
     requires { ⌜ (length (now s) < 2 ^ 56) × (c .br ≤ 5) × (c .t ≤ 31) ⌝ }
     ensures { λ r. ⌜ r ≡ unpackNopred (now (s .entry)) c insignificant i ⌝ }
 {
     if insignificant {
         in_range(c.t, i)
     } else {
-        read_code(s, c, c.t, i)
+        read_code(s, c.br, c.t, c.t, i)
     }
 }
 
@@ -102,7 +101,7 @@ fn larger(a: usize, b: usize) -> usize
 }
 
 // Table C.15, below a group with the count m_above and the truncation position t_above.
-fn read_vertical(s: &[u8], c: Coding, insignificant: bool, m_above: usize, t_above: usize, i: usize) -> Group
+pub fn read_vertical(s: &[u8], c: Coding, insignificant: bool, m_above: usize, t_above: usize, i: usize) -> Group
     requires { ⌜ (length (now s) < 2 ^ 56) × (c .br ≤ 5) × (c .t ≤ 31) × («m_above» ≤ 31) × («t_above» ≤ 31) ⌝ }
     ensures { λ r. ⌜ r ≡ unpackVertical (now (s .entry)) c insignificant «m_above» «t_above» i ⌝ }
 {
@@ -114,6 +113,6 @@ fn read_vertical(s: &[u8], c: Coding, insignificant: bool, m_above: usize, t_abo
             in_range(mtop, i)
         }
     } else {
-        read_code(s, c, mtop, i)
+        read_code(s, c.br, mtop, c.t, i)
     }
 }

@@ -9,7 +9,7 @@ ghost use mathlib.Core.Path.{_≡_};
 ghost use Prim.Native.Nat.{_+_, _*_, _/_, _%_, _^_, _≤_, _<_};
 ghost use lib.ListN.{length};
 ghost use Rattle.whole.proofs.Linear.{up};
-ghost use Rattle.counts.specs.Lines.{packed, countCell, insignificant, unpack, nibbles, lineCounts, Ready};
+ghost use Rattle.counts.specs.Lines.{packed, countCell, insignificant, unpack, Nibbles, lineCounts, Ready};
 
 // Where the cells of a line lie: coefficient x at `first` + x `stride`, for x below `width`, its count `area` cells behind it, and the
 // same coefficient one line up `up` cells before it.
@@ -34,4 +34,118 @@ fn held(z: i64) -> usize
     ensures { λ r. ⌜ r ≡ up z ⌝ }
 {
     if z < 0 { 0 } else { z as usize }
+}
+
+// A count and a truncation position as a cell holds them.
+fn to_hold(m: usize, t: usize) -> i64
+    requires { ⌜ (m ≤ 31) × (t ≤ 31) ⌝ }
+    ensures { λ r. ⌜ r ≡ packed m t ⌝ }
+{
+    (m + 32 * t) as i64
+}
+
+// How many nibbles of data the group with the count m takes.
+fn group_nibbles(c: Coding, m: usize) -> usize
+    requires { ⌜ m ≤ 31 ⌝ }
+    ensures { λ r. ⌜ Nibbles c m r ⌝ }
+{
+    let t = c.t;
+    if m <= t {
+        return 0;
+    }
+    if c.signs {
+        return m - t + 1;
+    }
+    m - t
+}
+
+// The count cell of the code group g.
+fn count_cell(p: Place, g: usize) -> usize
+    requires { ⌜ (g < 2 ^ 60) × (countCell p g < 2 ^ 64) ⌝ }
+    ensures { λ r. ⌜ r ≡ countCell p g ⌝ }
+{
+    p.first + 4 * g * p.stride + p.area
+}
+
+// Is the code group g in a significance group whose flag is set?
+fn is_insignificant(sig: &[u8], c: Coding, z: usize, g: usize) -> bool
+    requires { ⌜ z < 2 ^ 60 ⌝ }
+    ensures { λ r. ⌜ r ≡ insignificant (now (sig .entry)) c z g ⌝ }
+{
+    if c.flags {
+        bits::bit(sig, z + g / 8) == 1
+    } else {
+        false
+    }
+}
+
+// The count of the code group g, at the bit i of its stretch. The cell of the line above is read where it predicts.
+fn group_at(
+    stretch: &[u8],
+    sig: &[u8],
+    cells: &[i64],
+    c: Coding,
+    p: Place,
+    z: usize,
+    g: usize,
+    i: usize,
+) -> Group
+    requires { ⌜ Ready c p (length (now stretch)) z (length (now cells)) × (4 * g < p .width) ⌝ }
+    ensures { λ r. ⌜ r ≡ unpack (c .mode) (now (stretch .entry)) (now (sig .entry)) c p z g i (now (cells .entry)) ⌝ }
+{
+    let mode = c.mode;
+    match mode {
+        Mode::Raw => group::read_raw(stretch, c.br, i),
+        Mode::NoPrediction => group::read_nopred(stretch, c, is_insignificant(sig, c, z, g), i),
+        Mode::Vertical => {
+            let above = held(cells[count_cell(p, g) - p.up]);
+            group::read_vertical(
+                stretch,
+                c,
+                is_insignificant(sig, c, z, g),
+                above % 32,
+                above / 32 % 32,
+                i,
+            )
+        }
+    }
+}
+
+// The counts of a line, from the bit `at` of their stretch on; the line's significance flags stand in `sig` from the bit `sig_at` on.
+pub fn line_counts(
+    stretch: &[u8],
+    sig: &[u8],
+    cells: &mut [i64],
+    coding: Coding,
+    place: Place,
+    at: usize,
+    sig_at: usize,
+) -> Line
+    requires { ⌜ Ready coding place (length (now stretch)) «sig_at» (length (now cells)) ⌝ }
+    ensures { λ r. ⌜ lineCounts (now (stretch .entry)) (now (sig .entry)) coding place at «sig_at» (now (cells .entry)) ≡ (r, now (cells .exit)) ⌝ }
+{
+    let groups = (place.width + 3) / 4;
+    let mut i = at;
+    let mut need: usize = 0;
+    let mut g: usize = 0;
+    while g < groups {
+        match group_at(stretch, sig, cells, coding, place, sig_at, g, i) {
+            Group::Count(m, next) => {
+                cells[count_cell(place, g)] = to_hold(m, coding.t);
+                need += group_nibbles(coding, m);
+                i = next;
+            }
+            Group::Cut => {
+                return Line::Cut;
+            }
+            Group::High => {
+                return Line::High;
+            }
+        }
+        g += 1;
+    }
+    Line::Done {
+        next: i,
+        need: need,
+    }
 }

@@ -14,20 +14,20 @@ use Rattle.counts.proofs.group.read_raw.Tie as tie
 returns : tie.Need-returns
 returns c =
     let a = c .before .before .args in
-    let h : 8 * length (now (a .s)) < a .i + a .c .br = omega arith in
+    let h : 8 * length (now (a .s)) < a .i + a .br = omega arith in
     rw (lt-leb _ _ h)
 
 returns-2 : tie.Need-returns-2
 returns-2 c =
     let a = c .before .before .before .args in
-    let h : 8 * length (now (a .s)) < a .i + a .c .br = omega arith in
+    let h : 8 * length (now (a .s)) < a .i + a .br = omega arith in
     rw (lt-leb _ _ h)
 
 returns-3 : tie.Need-returns-3
 returns-3 c =
     let a = c .before .before .before .before .before .args in
-    let h : a .i + a .c .br ≤ 8 * length (now (a .s)) = omega arith in
-    rw (le-leb _ _ h) (c .in-range .ensures ∙ ap (λ (m : ℕ). counted (pos m) (a .i + a .c .br)) (c .before .field .ensures .value))
+    let h : a .i + a .br ≤ 8 * length (now (a .s)) = omega arith in
+    rw (le-leb _ _ h) (c .in-range .ensures ∙ ap (λ (m : ℕ). counted (pos m) (a .i + a .br)) (c .before .field .ensures .value))
 
 pub read-raw-spec : {M : Type 1} → statement M
 read-raw-spec =
