@@ -1,2 +1,5 @@
 -- Laws of the definitions, and the lemmas of the code's proofs.
 pub mod Planes
+pub mod Places
+pub mod Groups
+pub mod Lines

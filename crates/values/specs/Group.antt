@@ -84,9 +84,13 @@ module _ (dat sgn : List ℕ) (c : Coding) (g : Group) (from : Next) where
     placed (g .first) (g .stride) value (g .count) cells,
   )
 
--- what is asked of a group in `n` cells
+-- the first `count` places of a line lie among n cells
+pub record InCells (first stride count n : ℕ) : Type 0 where
+  pub each : (k : ℕ) → k < count → first + k * stride < n
+
+-- what is asked of a group in n cells
 pub record GroupFit (c : Coding) (g : Group) (from : Next) (n : ℕ) : Type 0 where
-  pub inside : (k : ℕ) → k < g .count → g .first + k * g .stride < n
+  pub inside : InCells (g .first) (g .stride) (g .count) n
   pub count : g .count ≤ 4
   pub m : g .m ≤ 31
   pub at : from .at < 2 ^ 63
@@ -101,6 +105,10 @@ pub record CountIs (z : ℤ) (r : ℕ) : Type 0 where
 
 pub record Magnitudes (dat : List ℕ) (from n : ℕ) (r : List ℕ) : Type 0 where
   pub each : (k : ℕ) → k < 4 → getD r k 0 ≡ planes dat from n k
+
+pub record SignBit (v r : ℕ) : Type 0 where
+  pub value : r ≡ cond (eqb v 0) 0 1
+  pub most : r ≤ 1
 
 -- the four bits in which the group's signs begin
 abbrev pub signField : List ℕ → List ℕ → Bool → ℕ → ℕ → ℕ

@@ -1,7 +1,7 @@
 -- One line of one band: its code groups in their order, each with the next nibbles of the data subpacket and the next bits of the sign subpacket.
 use mathlib.Core.Bool.{Bool}
 use mathlib.Core.List.{List}
-use Prim.Native.Nat.{ℕ, zero, suc, _+_, _*_, _/_, _%_, _^_, _≤_, _<_}
+use Prim.Native.Nat.{ℕ, zero, suc, _+_, _-_, _*_, _/_, _%_, _^_, _≤_, _<_, min}
 use lib.IntN.{ℤ}
 use Rattle.whole.specs.Numbers.{ceilDiv}
 use Rattle.whole.specs.Cells.{cell}
@@ -9,6 +9,7 @@ use Rattle.quantiser.specs.Inverse.{coefficientOf, scaled}
 use Rattle.values.specs.Group.{countIn, nibblesOf, signBitsOf, index, placed}
 use Rattle.values.specs.declared.Line.{Line}
 use Rattle.values.specs.declared.Coding.{Coding}
+use Rattle.values.specs.declared.Group.{Group}
 use Rattle.values.specs.declared.Next.{Next}
 
 -- what is asked of a line in `n` cells: its coefficient cells, and the count cell that stands `area` behind each, lie inside, and the coefficient
@@ -59,3 +60,15 @@ module _ (dat sgn : List ℕ) (c : Coding) (l : Line) (from : Next) (cells : Lis
     record { at = nibbleAt (groups l); sign = signAt (groups l) },
     placed (l .first) (l .stride) valueAt (l .width) cells,
   )
+
+-- ---- what its steps answer
+
+-- the cells hold the count cell of group g
+pub record HasGroup (l : Line) (g n : ℕ) : Type 0 where
+  pub some : 4 * g < l .width
+  pub inside : l .first + 4 * g * l .stride + l .area < n
+
+-- the part of code group g that the line has
+unfoldable pub groupOf : Line → List ℤ → ℕ → Group
+groupOf l cells g =
+    record { first = l .first + 4 * g * l .stride; stride = l .stride; count = min 4 (l .width - 4 * g); m = M l cells g; t = l .t }

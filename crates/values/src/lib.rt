@@ -3,10 +3,11 @@ ghost use mathlib.Core.Bool.{cond};
 ghost use mathlib.Core.Path.{_≡_};
 ghost use Prim.Native.Nat.{_+_, _-_, _*_, _/_, _%_, _≤_, _<_, _^_, min};
 ghost use lib.Dec.{eqb};
-ghost use lib.ListN.{length};
+ghost use lib.IntN.{pos};
+ghost use lib.ListN.{length, getD};
 ghost use Rattle.whole.specs.Numbers.{signed};
-ghost use Rattle.values.specs.Group.{CountIs, Magnitudes, GroupFit, nibblesOf, signField, groupValues};
-ghost use Rattle.values.specs.Line.{Fit, lineValues};
+ghost use Rattle.values.specs.Group.{CountIs, Magnitudes, SignBit, GroupFit, InCells, nibblesOf, signField, signBits, placed, groupValues};
+ghost use Rattle.values.specs.Line.{HasGroup, groupOf, Fit, lineValues};
 
 // Where a line stands in the cells, and its precinct's truncation position in its band. Coefficient x has the cell first + x·stride, and the count
 // cell of a code group stands `area` cells behind that of its first coefficient.
@@ -103,9 +104,16 @@ fn sign_field(dat: &[u8], sgn: &[u8], fs: bool, next: Next) -> usize
 
 // 1 where a sign goes with the size v.
 fn sign_bit(v: usize) -> usize
-    ensures { λ r. ⌜ r ≡ cond (eqb v 0) 0 1 ⌝ }
+    ensures { λ r. ⌜ SignBit v r ⌝ }
 {
     if v == 0 { 0 } else { 1 }
+}
+
+// The sign bits of four sizes.
+fn sign_bits(v: [usize; 4]) -> usize
+    ensures { λ r. ⌜ r ≡ signBits (λ k. getD v k 0) 4 ⌝ }
+{
+    sign_bit(v[0]) + sign_bit(v[1]) + sign_bit(v[2]) + sign_bit(v[3])
 }
 
 // The index of a sign bit and a size.
@@ -126,7 +134,58 @@ struct Group {
     t: usize,
 }
 
-// The coefficients of a group into their cells. Signs stand for all four sizes that are not 0, also for those that have no cell.
+// 0 into the cells of a group.
+fn clear_group(cells: &mut [i64], first: usize, stride: usize, count: usize)
+    requires { ⌜ InCells first stride count (length (now cells)) ⌝ }
+    ensures { λ _. ⌜ now (cells .exit) ≡ placed first stride (λ _. pos 0) count (now (cells .entry)) ⌝ }
+{
+    let mut k: usize = 0;
+    while k < count {
+        cells[first + k * stride] = 0;
+        k += 1;
+    }
+}
+
+// The coefficients of a group into their cells. A sign stands for each of the four sizes that is not 0, also for one that has no cell.
+fn coded_group(
+    dat: &[u8],
+    sgn: &[u8],
+    cells: &mut [i64],
+    how: Coding,
+    group: Group,
+    next: Next,
+) -> Next
+    requires { ⌜ GroupFit how group next (length (now cells)) ⌝ }
+    ensures { λ r. ⌜ groupValues (now (dat .entry)) (now (sgn .entry)) how group next (now (cells .entry)) ≡ (r, now (cells .exit)) ⌝ }
+{
+    let first = group.first;
+    let stride = group.stride;
+    let count = group.count;
+    let fs = how.fs;
+    let v = magnitudes(dat, next.at + chosen(fs, 0, 1), less(group.m, group.t));
+    let bits = sign_field(dat, sgn, fs, next);
+    let mut used: usize = 0;
+    let mut k: usize = 0;
+    while k < count {
+        let size = v[k];
+        let index = signed_index((bits >> (3 - chosen(fs, used, k))) % 2, size);
+        cells[first + k * stride] = quantiser::scaled_coefficient(
+            how.uniform,
+            group.m as u64,
+            group.t as u64,
+            how.fq as u64,
+            index,
+        );
+        used += sign_bit(size);
+        k += 1;
+    }
+    Next {
+        at: next.at + nibbles_of(group.m, group.t, fs),
+        sign: next.sign + chosen(fs, sign_bits(v), 0),
+    }
+}
+
+// A group into its cells. One whose planes are all truncated takes nothing.
 fn group_values(
     dat: &[u8],
     sgn: &[u8],
@@ -138,27 +197,27 @@ fn group_values(
     requires { ⌜ GroupFit how group next (length (now cells)) ⌝ }
     ensures { λ r. ⌜ groupValues (now (dat .entry)) (now (sgn .entry)) how group next (now (cells .entry)) ≡ (r, now (cells .exit)) ⌝ }
 {
-    let v = magnitudes(dat, next.at + chosen(how.fs, 0, 1), less(group.m, group.t));
-    let bits = sign_field(dat, sgn, how.fs, next);
-    let mut used: usize = 0;
-    let mut k: usize = 0;
-    while k < group.count {
-        let sign = (bits >> (3 - chosen(how.fs, used, k))) % 2;
-        let size = v[k];
-        cells[group.first + k * group.stride] = quantiser::scaled_coefficient(
-            how.uniform,
-            group.m as u64,
-            group.t as u64,
-            how.fq as u64,
-            signed_index(sign, size),
-        );
-        used += sign_bit(size);
-        k += 1;
+    if group.m <= group.t {
+        clear_group(cells, group.first, group.stride, group.count);
+        return next;
     }
-    let all = sign_bit(v[0]) + sign_bit(v[1]) + sign_bit(v[2]) + sign_bit(v[3]);
-    Next {
-        at: next.at + nibbles_of(group.m, group.t, how.fs),
-        sign: next.sign + chosen(how.fs, all, 0),
+    coded_group(dat, sgn, cells, how, group, next)
+}
+
+// Group g of a line.
+fn group_of(cells: &[i64], line: Line, g: usize) -> Group
+    requires { ⌜ HasGroup line g (length (now cells)) ⌝ }
+    ensures { λ r. ⌜ r ≡ groupOf line (now (cells .entry)) g ⌝ }
+{
+    let x = 4 * g;
+    let first = line.first + x * line.stride;
+    let held = first + line.area;
+    Group {
+        first: first,
+        stride: line.stride,
+        count: smaller(4, line.width - x),
+        m: count_in(cells[held]),
+        t: line.t,
     }
 }
 
@@ -178,15 +237,7 @@ pub fn line_values(
     let mut next = from;
     let mut g: usize = 0;
     while g < groups {
-        let first = line.first + 4 * g * line.stride;
-        let group = Group {
-            first: first,
-            stride: line.stride,
-            count: smaller(4, line.width - 4 * g),
-            m: count_in(cells[first + line.area]),
-            t: line.t,
-        };
-        next = group_values(dat, sgn, cells, how, group, next);
+        next = group_values(dat, sgn, cells, how, group_of(cells, line, g), next);
         g += 1;
     }
     next
