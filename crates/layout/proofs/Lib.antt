@@ -1,2 +1,6 @@
 -- Laws of the layout.
+pub mod Sizes
+pub mod Filters
+pub mod Shapes
+pub mod Columns
 pub mod Tables

@@ -10,15 +10,14 @@ use Rattle.layout.specs.Bands.{Wc, Hc, kind, dx, depth}
 unfoldable pub area : Shape → ℕ → ℕ
 area s i = Wc s i * Hc s i
 
--- the first of its cells; at i = Nc it is the number of all cells
-unfoldable pub start : Shape → ℕ → ℕ
-start s zero = 0
-start s (suc i) = start s i + 2 * area s i
-
--- N, the samples of all components
+-- the samples of the components before i; at i = Nc it is N, the samples of all
 unfoldable pub samples : Shape → ℕ → ℕ
 samples s zero = 0
 samples s (suc i) = samples s i + area s i
+
+-- the first cell of component i; at i = Nc it is 2 N, the number of all cells
+abbrev pub start : Shape → ℕ → ℕ
+start s i = 2 * samples s i
 
 -- the cell of coefficient (x, y) of a band of component i, counted from the component's first
 unfoldable pub inner : Shape → ℕ → ℕ → ℕ → ℕ → ℕ

@@ -1,4 +1,7 @@
 // Annex B of the standard: bands, precincts, the lines of each packet, and where each coefficient lies.
+mod bands;
+mod numbers;
+pub mod precincts;
 
 // What Annex B needs of a picture's header. Entries of sx and sy past the components are 0.
 pub struct Shape {

@@ -1,0 +1,66 @@
+-- What a built shape says of its components and bands. Assumes nothing.
+use mathlib.Core.Path.{_≡_, refl, sym, ap, _∙_}
+use Prim.Native.Nat.{ℕ, zero, suc, _+_, _*_, _-_, _/_, _%_, _^_, _≤_, _<_, min}
+use native.Mathlib.Nat.{div-eq-of-lt, div-le-of-le-mul, le-div-iff-mul-le, mul-le-mul-right, mul-suc, one-mul}
+use native.Mathlib.Omega.{arith}
+use Rattle.whole.specs.Numbers.{ceilDiv}
+use Rattle.layout.specs.declared.Shape.{Shape}
+use Rattle.layout.specs.declared.bands.Component.{Component}
+use Rattle.layout.specs.Bands.{sx, sy, Wc, Hc, N′y, kind, dx, dy, depth, filters}
+use Rattle.layout.specs.Built.{Built, Sampled}
+use Rattle.layout.specs.Sizes.{component-of, SmallComponent, own-filter, SmallFilter}
+use Rattle.layout.proofs.Filters.{filter-small, across-most, down-most, τx-most, τy-most}
+
+-- ---- ceilings
+
+-- at most the number itself, and at least 1 of a number that is not 0
+pub ceil-most : (e m : ℕ) → 0 < m → ceilDiv e m ≤ e
+ceil-most zero m h = omega (arith, div-eq-of-lt {n = 0 + (m - 1)} {m = m} (omega arith))
+ceil-most (suc e) m h = div-le-of-le-mul m (omega (arith, mul-le-mul-right e h, mul-suc m e, one-mul e))
+
+pub ceil-some : (e m : ℕ) → 0 < e → 0 < m → 1 ≤ ceilDiv e m
+ceil-some e m h k = le-div-iff-mul-le k .1 (omega arith)
+
+-- ---- components
+
+module _ (s : Shape) (i : ℕ) (r : Component) (built : Built s) (h : i < s .nc) where
+  pub component-small : r ≡ component-of s i → SmallComponent r
+  unfolding Wc Hc
+  component-small e =
+      let p = built .sampled i h in
+      rw e
+      (record {
+        across = p .across;
+        across-two = p .across-two;
+        down = p .down;
+        down-two = omega (arith, p .down-less, p .across-two);
+        wide = ceil-some (s .wf) (sx s i) (built .wide) (p .across);
+        narrow = omega (arith, ceil-most (s .wf) (sx s i) (p .across), built .narrow);
+        high = ceil-some (s .hf) (sy s i) (built .high) (p .down);
+        low = omega (arith, ceil-most (s .hf) (sy s i) (p .down), built .low);
+        levels = omega (arith, built .down-levels);
+      })
+
+-- ---- bands
+
+pub dx-most : (s : Shape) (β : ℕ) → Built s → dx s β ≤ s .nlx
+unfolding dx
+dx-most s β b = across-most (s .nlx) (s .nly) β (b .no-more)
+
+pub dy-most : (s : Shape) (β : ℕ) → dy s β ≤ s .nly
+unfolding dy
+dy-most s β = down-most (s .nlx) (s .nly) β
+
+pub depth-own : (s : Shape) (β i : ℕ) → depth s β i ≤ N′y s i
+unfolding depth
+depth-own s β i = omega arith
+
+pub own-small : (s : Shape) (β i : ℕ) → Built s → SmallFilter (own-filter s β i)
+unfolding depth
+own-small s β i b =
+    record {
+      tx = τx-most (kind s β);
+      ty = τy-most (kind s β);
+      dx = omega (arith, dx-most s β b, b .levels);
+      dy = omega (arith, dy-most s β, b .down-levels);
+    }

@@ -1,0 +1,75 @@
+-- The answers of the functions that others build on, as the definitions have them, and beside them their ranges, for the sums of the callers.
+use mathlib.Core.Path.{_≡_}
+use Prim.Native.Nat.{ℕ, _*_, _^_, _≤_, _<_}
+use Rattle.wavelet.specs.Bands.{τx, τy}
+use Rattle.layout.specs.declared.Shape.{Shape}
+use Rattle.layout.specs.declared.bands.Filter.{Filter}
+use Rattle.layout.specs.declared.bands.Component.{Component}
+use Rattle.layout.specs.declared.bands.Band.{Band}
+use Rattle.layout.specs.declared.precincts.Column.{Column}
+use Rattle.layout.specs.Bands.{sx, sy, Wc, Hc, N′y, letters-of, across-of, down-of, kind, dx, depth, exists}
+use Rattle.layout.specs.Precincts.{Cs, Wp, largest}
+
+-- r is 2^k, a power that a depth can have
+pub record Power (k r : ℕ) : Type 0 where
+  pub is : r ≡ 2 ^ k
+  pub some : 0 < r
+  pub few : r ≤ 32
+
+abbrev pub filter-of : ℕ → ℕ → ℕ → Filter
+filter-of NLx NLy β =
+    record { tx = τx (letters-of NLx NLy β); ty = τy (letters-of NLx NLy β); dx = across-of NLx NLy β; dy = down-of NLx NLy β }
+
+pub record SmallFilter (f : Filter) : Type 0 where
+  pub tx : f .tx ≤ 1
+  pub ty : f .ty ≤ 1
+  pub dx : f .dx ≤ 5
+  pub dy : f .dy ≤ 2
+
+abbrev pub component-of : Shape → ℕ → Component
+component-of s i = record { sx = sx s i; sy = sy s i; w = Wc s i; h = Hc s i; ny = N′y s i }
+
+pub record SmallComponent (c : Component) : Type 0 where
+  pub across : 1 ≤ c .sx
+  pub across-two : c .sx ≤ 2
+  pub down : 1 ≤ c .sy
+  pub down-two : c .sy ≤ 2
+  pub wide : 1 ≤ c .w
+  pub narrow : c .w ≤ 16384
+  pub high : 1 ≤ c .h
+  pub low : c .h ≤ 16384
+  pub levels : c .ny ≤ 2
+
+pub record IsComponent (s : Shape) (i : ℕ) (r : Component) : Type 0 where
+  pub is : r ≡ component-of s i
+  pub small : SmallComponent r
+
+abbrev pub own-filter : Shape → ℕ → ℕ → Filter
+own-filter s β i = record { tx = τx (kind s β); ty = τy (kind s β); dx = dx s β; dy = depth s β i }
+
+abbrev pub band-of : Shape → ℕ → ℕ → Band
+band-of s β i = record { exists = exists s β i; filter = own-filter s β i; part = component-of s i }
+
+pub record IsBand (s : Shape) (β i : ℕ) (r : Band) : Type 0 where
+  pub is : r ≡ band-of s β i
+  pub filter : SmallFilter (r .filter)
+  pub part : SmallComponent (r .part)
+  pub own : r .filter .dy ≤ r .part .ny
+
+pub record IsLargest (s : Shape) (r : ℕ) : Type 0 where
+  pub is : r ≡ largest (sx s) (s .nc)
+  pub some : 1 ≤ r
+  pub few : r ≤ 2
+
+pub record IsColumnWidth (s : Shape) (r : ℕ) : Type 0 where
+  pub is : r ≡ Cs s
+  pub some : 0 < r
+  pub few : r < 2 ^ 26
+
+abbrev pub column-of : Shape → ℕ → Column
+column-of s column = record { x = column * Cs s; width = Wp s column }
+
+pub record IsColumn (s : Shape) (column : ℕ) (r : Column) : Type 0 where
+  pub is : r ≡ column-of s column
+  pub small : r .x < 2 ^ 60
+  pub narrow : r .width < 2 ^ 60
