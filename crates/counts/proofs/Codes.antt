@@ -145,7 +145,7 @@ module _ (s : List ℕ) where
   ones-window i zero = ones-none i
   ones-window i (suc w) =
       let turned : 2 ^ suc w - 1 - field s i (suc w) ≡ 2 * (2 ^ w - 1 - field s i w) + (1 - bitAt s (i + w)) =
-          rw pow-suc (omega (arith, field-lt s i w, field-one s (i + w), field-lt s (i + w) 1)) in
+      rw pow-suc (omega (arith, field-lt s i w, field-one s (i + w), field-lt s (i + w) 1)) in
       rw turned (window-more i w _ (omega (arith, field-lt s i w)) (ones-window i w))
 
 -- the same of a window that was read, in a word of k bits

@@ -101,7 +101,14 @@ fn larger(a: usize, b: usize) -> usize
 }
 
 // Table C.15, below a group with the count m_above and the truncation position t_above.
-pub fn read_vertical(s: &[u8], c: Coding, insignificant: bool, m_above: usize, t_above: usize, i: usize) -> Group
+pub fn read_vertical(
+    s: &[u8],
+    c: Coding,
+    insignificant: bool,
+    m_above: usize,
+    t_above: usize,
+    i: usize,
+) -> Group
     requires { ⌜ (length (now s) < 2 ^ 56) × (c .br ≤ 5) × (c .t ≤ 31) × («m_above» ≤ 31) × («t_above» ≤ 31) ⌝ }
     ensures { λ r. ⌜ r ≡ unpackVertical (now (s .entry)) c insignificant «m_above» «t_above» i ⌝ }
 {

@@ -31,7 +31,7 @@ module _ (NLx NLy : ℕ) where
       record { letters = rw (z, l); across = rw (z, l); down = rw l }
 
   pub type-both : (β : ℕ) → first-types NLx NLy ≤ β
-    → TypeIs NLx NLy β (letters ((β - first-types NLx NLy) % 3)) (NLy - (β - first-types NLx NLy) / 3) (NLy - (β - first-types NLx NLy) / 3)
+      → TypeIs NLx NLy β (letters ((β - first-types NLx NLy) % 3)) (NLy - (β - first-types NLx NLy) / 3) (NLy - (β - first-types NLx NLy) / 3)
   type-both β h =
       let z = ne-eqb β 0 (λ e. omega arith) in
       let l = le-ltb β (first-types NLx NLy) h in
@@ -134,7 +134,7 @@ module _ (NLx NLy β : ℕ) (h : NLy ≤ NLx) (b : β < filters NLx NLy) where
 
   -- first + 3 q + m, with q below NLy
   pub both-parts : (l : first-types NLx NLy ≤ β)
-    → (first-types NLx NLy + 3 * ((β - first-types NLx NLy) / 3) + (β - first-types NLx NLy) % 3 ≡ β) × ((β - first-types NLx NLy) / 3 < NLy)
+      → (first-types NLx NLy + 3 * ((β - first-types NLx NLy) / 3) + (β - first-types NLx NLy) % 3 ≡ β) × ((β - first-types NLx NLy) / 3 < NLy)
   both-parts l = two (first-types NLx NLy) l (first-is NLx NLy h) (filters-is NLx NLy h)
     where
       two : (f : ℕ) → f ≤ β → f ≡ NLx - NLy + 1 → filters NLx NLy ≡ NLx - NLy + 1 + 3 * NLy → (f + 3 * ((β - f) / 3) + (β - f) % 3 ≡ β) × ((β - f) / 3 < NLy)

@@ -50,10 +50,10 @@ packet s row l β = loop 0 (s .nc) 1 (λ i. when (included s row β i l) (part s
 unfoldable pub packets : Shape → ℕ → List (List Part)
 packets s row =
     nonempty (
-      first-packet s
-      ∷ loop (β₁ s) (Nβ s) 3 (λ β₀.
-        loop 0 (2 ^ (s .nly - dy s β₀)) 1 (λ l.
-        loop β₀ (β₀ + 3) 1 (λ β. packet s row l β ∷ [])))
+    first-packet s
+    ∷ loop (β₁ s) (Nβ s) 3 (λ β₀.
+    loop 0 (2 ^ (s .nly - dy s β₀)) 1 (λ l.
+    loop β₀ (β₀ + 3) 1 (λ β. packet s row l β ∷ [])))
     )
 
 -- Table A.7: a code group has 4 coefficients, a significance group 8 code groups

@@ -62,5 +62,5 @@ line-at s row column k j = line s row column (slot-type s k + j / s .nc) (j % s 
 unfoldable pub slot : Shape → ℕ → ℕ → List Part
 slot s row k =
     loop 0 (candidates s k) 1 (λ j.
-      when (included s row (slot-type s k + j / s .nc) (j % s .nc) (slot-line k))
-      (part s (slot-type s k + j / s .nc) (j % s .nc) (slot-line k + L0 s (slot-type s k + j / s .nc) (j % s .nc))))
+    when (included s row (slot-type s k + j / s .nc) (j % s .nc) (slot-line k))
+    (part s (slot-type s k + j / s .nc) (j % s .nc) (slot-line k + L0 s (slot-type s k + j / s .nc) (j % s .nc))))

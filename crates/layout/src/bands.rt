@@ -1,6 +1,8 @@
 // B.1 to B.4: components, filter types and bands.
-use crate::numbers::{ceil_div, power, smaller};
 use crate::Shape;
+use crate::numbers::ceil_div;
+use crate::numbers::power;
+use crate::numbers::smaller;
 ghost use mathlib.Core.Path.{_≡_};
 ghost use Prim.Native.Nat.{_-_, _*_, _%_, _^_, _<_, _≤_};
 ghost use lib.Dec.{eqb};

@@ -1,6 +1,10 @@
 // B.5 and B.11: precincts and slices.
-use crate::numbers::{ceil_div, larger, low_size, power, product};
 use crate::Shape;
+use crate::numbers::ceil_div;
+use crate::numbers::larger;
+use crate::numbers::low_size;
+use crate::numbers::power;
+use crate::numbers::product;
 ghost use mathlib.Core.Path.{_≡_};
 ghost use Prim.Native.Nat.{_*_, _<_, _≤_, _^_};
 ghost use Rattle.layout.specs.Built.{Built};

@@ -1,4 +1,5 @@
 -- Annex C: one packet of a precinct.
 pub mod Precincts
+pub mod Ready
 pub mod Passes
 pub mod Packets

@@ -27,7 +27,7 @@ use Rattle.packets.specs.Passes.{line, marks, packetCounts, packetValues
 -- 'An empty packet has no header': whether one of the first n candidates of the slot is there
 unfoldable pub anyLine : Setting → Precinct → ℕ → ℕ → Bool
 anyLine c p slot zero = false
-anyLine c p slot (suc n) = anyLine c p slot n || line [] c p slot n .present
+anyLine c p slot (suc n) = anyLine c p slot n || line c p slot n .present
 
 -- C.3: two packets of a precinct share bands where they are two lines of one filter type: slots 7, 8 and 9 follow slots 4, 5 and 6. With Rl = 0 they have
 -- one raw flag. `raws` are the flags of the earlier slots

@@ -23,19 +23,19 @@ use Rattle.packets.specs.declared.Setting.{Setting}
 use Rattle.packets.specs.declared.Precinct.{Precinct}
 use Rattle.packets.specs.Precincts.{D, T}
 
-module _ (s : List ℕ) (c : Setting) (p : Precinct) (slot : ℕ) where
-  abbrev pub line : ℕ → Line
-  line j = line-at (c .shape) (p .row) (p .column) slot j
+abbrev pub line : Setting → Precinct → ℕ → ℕ → Line
+line c p slot j = line-at (c .shape) (p .row) (p .column) slot j
 
+module _ (s : List ℕ) (c : Setting) (p : Precinct) (slot : ℕ) where
   -- ---- Table C.6: Z is there for a line where Dr = 0 and D & 2
 
   abbrev pub marked : Bool → ℕ → Bool
-  marked raw j = line j .present && not raw && eqb (D s c p (line j .band) / 2) 1
+  marked raw j = line c p slot j .present && not raw && eqb (D s c p (line c p slot j .band) / 2) 1
 
   -- the significance flags of the lines below j, and the bytes of all
   unfoldable pub marks : Bool → ℕ → ℕ
   marks raw zero = 0
-  marks raw (suc j) = marks raw j + cond (marked raw j) (line j .marks) 0
+  marks raw (suc j) = marks raw j + cond (marked raw j) (line c p slot j .marks) 0
 
   -- ---- Table C.8
 
@@ -67,8 +67,8 @@ module _ (s : List ℕ) (c : Setting) (p : Precinct) (slot : ℕ) where
 
   unfoldable pub countTurn : List ℕ → List ℕ → Bool → ℕ → Counting → Turn Counting (Counted × List ℤ)
   countTurn cnt sig raw j x =
-      cond (line j .present)
-      (counted (x .1) (lineCounts cnt sig (codingOf raw (line j .band)) (placeOf (line j)) (x .0) (marks raw j) (x .2)))
+      cond (line c p slot j .present)
+      (counted (x .1) (lineCounts cnt sig (codingOf raw (line c p slot j .band)) (placeOf (line c p slot j)) (x .0) (marks raw j) (x .2)))
       (go x)
 
   -- all lines of the packet, from the stretch of the counts and that of the significance flags
@@ -85,7 +85,7 @@ module _ (s : List ℕ) (c : Setting) (p : Precinct) (slot : ℕ) where
   valued l = record { first = l .cell; stride = l .stride; width = l .width; area = l .area; t = T c p (l .band) }
 
   unfoldable pub valueTurn : List ℕ → List ℕ → ℕ → Next × List ℤ → Turn (Next × List ℤ) (Next × List ℤ)
-  valueTurn dat sgn j x = go (cond (line j .present) (lineValues dat sgn valuesOf (valued (line j)) (x .0) (x .1)) x)
+  valueTurn dat sgn j x = go (cond (line c p slot j .present) (lineValues dat sgn valuesOf (valued (line c p slot j)) (x .0) (x .1)) x)
 
   unfoldable pub packetValues : List ℕ → List ℕ → List ℤ → Next × List ℤ
   packetValues dat sgn cells =

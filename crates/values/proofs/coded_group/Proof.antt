@@ -59,9 +59,9 @@ less-requires c κs = search needs
 -- src/lib.rt:165:13
 magnitudes-requires : tie.Need-magnitudes-requires Inv-loop μ-loop
 magnitudes-requires c κs = (
-      omega (arith, c .less .ensures, c .before .before .before .before .before .pre .m),
-      omega (arith, c .before .before .chosen .ensures, one-or-none (c .before .before .before .before .before .args .how .fs), c .before .before .before .before .before .pre .at),
-    )
+  omega (arith, c .less .ensures, c .before .before .before .before .before .pre .m),
+  omega (arith, c .before .before .chosen .ensures, one-or-none (c .before .before .before .before .before .args .how .fs), c .before .before .before .before .before .pre .at),
+)
 
 -- src/lib.rt:166:9
 sign-field-requires : tie.Need-sign-field-requires Inv-loop μ-loop
@@ -151,7 +151,7 @@ loop-less c = search needs
 
 -- src/lib.rt:169:5
 loop-again : tie.Need-loop-again Inv-loop μ-loop
-loop-again c = 
+loop-again c =
     let s = c .before in
     let i = s .before .before .before .before .loop .inv in
     let z = value-is (i .1) _ (index-read (s .before)) (rw (back64 _ (s .before .signed-index .ok)) at (s .scaled-coefficient .ensures)) in (
@@ -167,7 +167,7 @@ nibbles-of-requires c κs = search needs
 
 -- src/lib.rt:183:13
 add-t19 : tie.Need-add-t19 Inv-loop μ-loop
-add-t19 c = 
+add-t19 c =
     let a = c .before .before .before .before .before .before .before .before .before .before .before in
     omega (arith, c .before .nibbles-of .ensures, nibbles-le (a .args .group .m) (a .args .group .t) (a .args .how .fs) (a .pre .m), a .pre .at)
 
@@ -185,7 +185,7 @@ taken c = used-all (c .before .before .before .before .before .before .loop .inv
 
 -- src/lib.rt:184:15
 add-t34 : tie.Need-add-t34 Inv-loop μ-loop
-add-t34 c = 
+add-t34 c =
     let a = c .before .before .before .before .before .before .before .before .before .before .before .before .before .before in
     omega (arith, taken c, sign-bits-of-le (now (a .args .dat)) (a .args .how .fs) (a .args .group .m) (a .args .group .t) (a .args .next .at), a .pre .sign)
 
@@ -195,7 +195,7 @@ same-length c = c .before .before .before .before .before .before .loop .inv .3 
 
 -- src/lib.rt:150:1
 returns : tie.Need-returns Inv-loop μ-loop
-returns c = 
+returns c =
     let l = c .before .before .before .before .before in
     group-is _ _ _ _ _ (c .before .before .before .before .nibbles-of .ensures) (taken c) (l .before .loop .inv .3) (omega (arith, l .loop-test .left, l .before .loop .inv .0))
 

@@ -26,12 +26,12 @@ returns c =
     let p = c .before .before .component-of .ensures in
     let s = e .args .s in
     let is : _ ≡ band-of s (e .args .beta) (e .args .i) =
-        λ i.
-          record {
-            exists = (c .before .first-line-divides .ensures ∙ (λ j. eqb (2 ^ (s .nly - f j .dy) * f j .ty % p .is j .sy) 0)) i;
-            filter = record { tx = f i .tx; ty = f i .ty; dx = f i .dx; dy = (c .smaller .ensures ∙ (λ j. min (f j .dy) (p .is j .ny))) i };
-            part = p .is i;
-          }
+    λ i.
+    record {
+      exists = (c .before .first-line-divides .ensures ∙ (λ j. eqb (2 ^ (s .nly - f j .dy) * f j .ty % p .is j .sy) 0)) i;
+      filter = record { tx = f i .tx; ty = f i .ty; dx = f i .dx; dy = (c .smaller .ensures ∙ (λ j. min (f j .dy) (p .is j .ny))) i };
+      part = p .is i;
+    }
     in
     record { is = is; filter = subst (λ (b : Band). SmallFilter (b .filter)) (sym is) (own-small s (e .args .beta) (e .args .i) (e .pre .0)); part = p .small; own = subst (λ (b : Band). b .filter .dy ≤ b .part .ny) (sym is) (depth-own s (e .args .beta) (e .args .i)) }
 

@@ -30,14 +30,14 @@ unfolding Wc Hc
 returns c =
     let e = c .before .before .before .before .before in
     let is : _ ≡ component-of (e .args .s) (e .args .i) =
-        λ i.
-          record {
-            sx = getD (e .args .s .sx) (e .args .i) 0;
-            sy = getD (e .args .s .sy) (e .args .i) 0;
-            w = (c .before .before .ceil-div .ensures) i;
-            h = (c .before .ceil-div2 .ensures) i;
-            ny = N′y (e .args .s) (e .args .i);
-          }
+    λ i.
+    record {
+      sx = getD (e .args .s .sx) (e .args .i) 0;
+      sy = getD (e .args .s .sy) (e .args .i) 0;
+      w = (c .before .before .ceil-div .ensures) i;
+      h = (c .before .ceil-div2 .ensures) i;
+      ny = N′y (e .args .s) (e .args .i);
+    }
     in
     record { is = is; small = component-small _ _ _ (e .pre .0) (e .pre .1) is }
 

@@ -31,12 +31,12 @@ returns-3 c =
     let m = (a .beta - first-types (a .nlx) (a .nly)) % 3 in
     let small = mod-lt (a .beta - first-types (a .nlx) (a .nly)) {m = 3} (omega arith) in
     λ i.
-      record {
-        tx = (ap (λ (f : ℕ). ((a .beta - f) % 3 + 1) % 2) first ∙ sym (ap τx (t .letters) ∙ τx-letters m small)) i;
-        ty = (ap (λ (f : ℕ). ((a .beta - f) % 3 + 1) / 2) first ∙ sym (ap τy (t .letters) ∙ τy-letters m small)) i;
-        dx = (ap (λ (f : ℕ). a .nly - (a .beta - f) / 3) first ∙ sym (t .across)) i;
-        dy = (ap (λ (f : ℕ). a .nly - (a .beta - f) / 3) first ∙ sym (t .down)) i;
-      }
+    record {
+      tx = (ap (λ (f : ℕ). ((a .beta - f) % 3 + 1) % 2) first ∙ sym (ap τx (t .letters) ∙ τx-letters m small)) i;
+      ty = (ap (λ (f : ℕ). ((a .beta - f) % 3 + 1) / 2) first ∙ sym (ap τy (t .letters) ∙ τy-letters m small)) i;
+      dx = (ap (λ (f : ℕ). a .nly - (a .beta - f) / 3) first ∙ sym (t .across)) i;
+      dy = (ap (λ (f : ℕ). a .nly - (a .beta - f) / 3) first ∙ sym (t .down)) i;
+    }
 
 pub filter-type-spec : {M : Type 1} → statement M
 filter-type-spec =

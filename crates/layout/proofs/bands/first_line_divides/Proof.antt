@@ -13,7 +13,7 @@ mul-result c =
     let e = c .before .before .before in
     record {
       fits =
-        omega (arith, mul-le-mul {n₁ = c .before .power .result} {m₁ = e .args .f .ty} {n₂ = 32} {m₂ = 1} (c .before .power .ensures .few) (e .pre .2));
+          omega (arith, mul-le-mul {n₁ = c .before .power .result} {m₁ = e .args .f .ty} {n₂ = 32} {m₂ = 1} (c .before .power .ensures .few) (e .pre .2));
     }
 
 returns : tie.Need-returns

@@ -11,8 +11,8 @@ returns c =
     let first = c .before .before .before in
     let a = first .before .before .args in
     λ i.
-      (first .product .ensures .0 ∙ ap (λ (p : ℕ). a .i * p) (first .before .power .ensures .is)) i
-      + (c .product2 .ensures .0 ∙ ap (λ (p : ℕ). a .t * p) (c .before .power2 .ensures .is ∙ ap (λ (k : ℕ). 2 ^ k) (c .before .before .less .ensures))) i
+    (first .product .ensures .0 ∙ ap (λ (p : ℕ). a .i * p) (first .before .power .ensures .is)) i
+    + (c .product2 .ensures .0 ∙ ap (λ (p : ℕ). a .t * p) (c .before .power2 .ensures .is ∙ ap (λ (k : ℕ). 2 ^ k) (c .before .before .less .ensures))) i
 
 pub place-spec : {M : Type 1} → statement M
 place-spec = tie.close (tie.spec (λ c κs. search needs) (λ c κs. search needs) (λ c κs. search needs) (λ c κs. search needs) (λ c κs. search needs) (λ c. search needs) returns)

@@ -30,7 +30,7 @@ returns c =
     let test : e .args .column < Npx s - 1 = omega (arith, c .if1 .taken, c .before .before .precinct-columns .ensures .0) in
     record {
       is =
-        λ i.
+          λ i.
           record {
             x = (c .before .product .ensures .0 ∙ ap (λ (k : ℕ). e .args .column * k) (w .is)) i;
             width = (w .is ∙ (λ j. cond (sym (lt-ltb (e .args .column) (Npx s - 1) test) j) (Cs s) ((s .wf - 1) % Cs s + 1))) i;
@@ -59,12 +59,12 @@ returns-2 c =
     let test : Npx s - 1 ≤ e .args .column = omega (arith, c .before .if1 .left, c .before .before .before .precinct-columns .ensures .0) in
     record {
       is =
-        λ i.
+          λ i.
           record {
             x = (c .before .before .product .ensures .0 ∙ ap (λ (k : ℕ). e .args .column * k) (w .is)) i;
             width =
-              (ap (λ (k : ℕ). (s .wf - 1) % k + 1) (w .is)
-              ∙ (λ j. cond (sym (le-ltb (e .args .column) (Npx s - 1) test) j) (Cs s) ((s .wf - 1) % Cs s + 1))) i;
+                (ap (λ (k : ℕ). (s .wf - 1) % k + 1) (w .is)
+                ∙ (λ j. cond (sym (le-ltb (e .args .column) (Npx s - 1) test) j) (Cs s) ((s .wf - 1) % Cs s + 1))) i;
           };
       small = c .before .before .product .ensures .1;
       narrow = omega (arith, mod-le (s .wf - 1) (c .before .before .before .before .column-width .result), e .pre .0 .narrow);

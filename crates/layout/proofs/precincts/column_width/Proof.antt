@@ -20,7 +20,7 @@ product-requires-2 c κs =
     let e = c .before .before .before .before in
     let s = e .args .s in
     let wide : c .before .product .result ≡ 8 * s .cw * largest (sx s) (s .nc) =
-        c .before .product .ensures .0 ∙ ap (λ (m : ℕ). 8 * s .cw * m) (c .before .before .largest-sx .ensures .is)
+    c .before .product .ensures .0 ∙ ap (λ (m : ℕ). 8 * s .cw * m) (c .before .before .largest-sx .ensures .is)
     in
     omega (arith, wide, wide-most s (e .pre), c .power .ensures .few)
 
@@ -29,10 +29,10 @@ returns c =
     let e = c .before .before .before .before .before in
     let s = e .args .s in
     let wide : c .before .before .product .result ≡ 8 * s .cw * largest (sx s) (s .nc) =
-        c .before .before .product .ensures .0 ∙ ap (λ (m : ℕ). 8 * s .cw * m) (c .before .before .before .largest-sx .ensures .is)
+    c .before .before .product .ensures .0 ∙ ap (λ (m : ℕ). 8 * s .cw * m) (c .before .before .before .largest-sx .ensures .is)
     in
     let is : c .product2 .result ≡ Cs s =
-        c .product2 .ensures .0 ∙ (λ i. wide i * c .before .power .ensures .is i) ∙ sym (Cs-columns s (e .pre) (c .before .before .before .before .if1 .taken))
+    c .product2 .ensures .0 ∙ (λ i. wide i * c .before .power .ensures .is i) ∙ sym (Cs-columns s (e .pre) (c .before .before .before .before .if1 .taken))
     in
     record { is = is; some = omega (arith, is, Cs-range s (e .pre) .0); few = omega (arith, is, Cs-range s (e .pre) .1) }
 

@@ -14,9 +14,9 @@ returns c =
     let e = c .before .before .before .before in
     let s = e .args .s in
     let is : c .larger3 .result ≡ largest (sx s) (s .nc) =
-        c .larger3 .ensures
-        ∙ ap (λ (a : ℕ). max a (sx s 3)) (c .before .larger2 .ensures ∙ ap (λ (a : ℕ). max a (sx s 2)) (c .before .before .larger .ensures))
-        ∙ sym (largest-four s (e .pre))
+    c .larger3 .ensures
+    ∙ ap (λ (a : ℕ). max a (sx s 3)) (c .before .larger2 .ensures ∙ ap (λ (a : ℕ). max a (sx s 2)) (c .before .before .larger .ensures))
+    ∙ sym (largest-four s (e .pre))
     in
     record { is = is; some = omega (arith, is, largest-one s (e .pre)); few = omega (arith, is, largest-two s (e .pre)) }
 
