@@ -3,4 +3,7 @@ pub mod Sizes
 pub mod Filters
 pub mod Shapes
 pub mod Columns
+pub mod Sums
+pub mod Reaches
+pub mod Slots
 pub mod Tables
