@@ -1,0 +1,34 @@
+use borrow.Author.Needs.{needs}
+use Rattle.packets.proofs.values_by.Statement.{statement}
+use Rattle.packets.proofs.values_by.Tie as tie
+use Rattle.packets.proofs.values_by.Reads as reads
+use Rattle.packets.proofs.values_by.Lts as lts
+use Rattle.packets.proofs.values.Reads as values-reads
+
+-- src/lib.rt:187:36
+enum-told : tie.Need-enum-told
+enum-told c = search needs
+
+-- src/lib.rt:187:26
+values-requires : tie.Need-values-requires
+values-requires c κs = search needs
+
+-- src/lib.rt:188:32
+enum-told-2 : tie.Need-enum-told-2
+enum-told-2 c = search needs
+
+-- src/lib.rt:182:1
+same-length : tie.Need-same-length
+same-length c = search needs
+
+-- src/lib.rt:182:1
+returns : tie.Need-returns
+returns c = search needs
+
+-- src/lib.rt:182:1
+returns-2 : tie.Need-returns-2
+returns-2 c = search needs
+
+pub values-by-spec : {M : Type 1} → statement M
+values-by-spec =
+    tie.close (tie.spec enum-told values-requires enum-told-2 same-length returns returns-2)
