@@ -1,3 +1,9 @@
+use native.Mathlib.Omega.{arith}
+use denote.Ref.{now}
+use mathlib.Core.Path.{_≡_, refl, sym, ap, _∙_}
+use Rattle.packets.proofs.Stretches.{done-table, done-inside, after-cut, after-high}
+use Rattle.rows.specs.declared.Verdict.{Verdict}
+use Rattle.packets.specs.Packets.{valuesBy}
 use borrow.Author.Needs.{needs}
 use Rattle.packets.proofs.after_counts.Statement.{statement}
 use Rattle.packets.proofs.after_counts.Tie as tie
@@ -43,7 +49,12 @@ first-requires c κs = search needs
 
 -- src/lib.rt:220:13
 values-by-requires : tie.Need-values-by-requires
-values-by-requires c κs = search needs
+values-by-requires c κs = 
+    let start = c .before .before .before .before .before .before .before .before .before .before in
+    let a = start .args in
+    let line = c .before .before .before .before .before .before .before .line .given .1 in
+    let v = done-table (now (a .s)) (a .c) (a .p) (a .slot) (a .parts .at) (start .pre .1) line (c .before .before .before .before .bytes-of-nibbles .ensures) (c .before .before .before .less .ensures) (c .before .first .ensures) in
+    (start .pre .0, start .pre .1, λ e. omega (arith, done-inside (now (a .s)) (a .c) (a .p) (a .slot) (a .parts .at) (start .pre .1) line v (start .pre .2) e, start .pre .0 .within .end))
 
 -- src/lib.rt:222:46
 enum-told : tie.Need-enum-told
@@ -79,15 +90,26 @@ same-length c = search needs
 
 -- src/lib.rt:193:1
 returns : tie.Need-returns
-returns c = search needs
+returns c = 
+    let start = c .before .before .before .before .before .before .before .before .before .before .before .before in
+    let a = start .args in
+    let line = c .before .before .before .before .before .before .before .before .before .line .given .1 in
+    let v = done-table (now (a .s)) (a .c) (a .p) (a .slot) (a .parts .at) (start .pre .1) line (c .before .before .before .before .before .before .bytes-of-nibbles .ensures) (c .before .before .before .before .before .less .ensures) (c .before .before .before .first .ensures) in
+    ap (λ (v : Verdict). valuesBy (now (a .s)) (a .c) (a .p) (a .slot) (a .parts .at) v (now (a .cells))) (sym v) ∙ c .before .values-by .ensures
 
 -- src/lib.rt:193:1
 returns-2 : tie.Need-returns-2
-returns-2 c = search needs
+returns-2 c = 
+    let start = c .before .before .before .before in
+    let a = start .args in
+    after-cut (now (a .s)) (a .c) (a .p) (a .slot) (a .parts .at) (start .pre .1) (now (a .cells)) (c .before .enum-told .given .1) (c .one .ensures)
 
 -- src/lib.rt:193:1
 returns-3 : tie.Need-returns-3
-returns-3 c = search needs
+returns-3 c = 
+    let start = c .before .before .before .before in
+    let a = start .args in
+    after-high (now (a .s)) (a .c) (a .p) (a .slot) (a .parts .at) (start .pre .1) (now (a .cells)) (c .before .enum-told2 .given .1) (c .one2 .ensures)
 
 pub after-counts-spec : {M : Type 1} → statement M
 after-counts-spec =

@@ -1,3 +1,5 @@
+use denote.Ref.{now}
+use Rattle.packets.proofs.Stretches.{counts-are}
 use borrow.Author.Needs.{needs}
 use Rattle.packets.proofs.counts_of.Statement.{statement}
 use Rattle.packets.proofs.counts_of.Tie as tie
@@ -39,7 +41,10 @@ same-length c = search needs
 
 -- src/lib.rt:228:1
 returns : tie.Need-returns
-returns c = search needs
+returns c = 
+    let start = c .before .before .before .before .before .before in
+    let a = start .args in
+    counts-are (now (a .s)) (a .c) (a .p) (a .slot) (a .parts .at) (start .pre .1) (now (a .cells)) (c .before .packet-counts .ensures)
 
 pub counts-of-spec : {M : Type 1} → statement M
 counts-of-spec =

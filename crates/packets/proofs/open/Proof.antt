@@ -1,3 +1,8 @@
+use native.Mathlib.Omega.{arith}
+use denote.Ref.{now}
+use mathlib.Core.Path.{_≡_, refl, sym, ap, _∙_}
+use Rattle.packets.proofs.Stretches.{head-table, head-inside}
+use Rattle.layout.proofs.Slots.{slots-most}
 use borrow.Author.Needs.{needs}
 use Rattle.packets.proofs.open.Statement.{statement}
 use Rattle.packets.proofs.open.Tie as tie
@@ -21,11 +26,15 @@ parts-of-requires c κs = search needs
 
 -- src/lib.rt:139:9
 bound-flag-requires : tie.Need-bound-flag-requires
-bound-flag-requires c κs = search needs
+bound-flag-requires c κs = 
+    let w = c .before .before .before .before .pre .0 .slotted in
+    omega (arith, w .which, slots-most _ (w .settled .shape))
 
 -- src/lib.rt:140:9
 bound-flag-requires-2 : tie.Need-bound-flag-requires-2
-bound-flag-requires-2 c κs = search needs
+bound-flag-requires-2 c κs = 
+    let w = c .before .before .before .before .before .pre .0 .slotted in
+    omega (arith, w .which, slots-most _ (w .settled .shape))
 
 -- src/lib.rt:141:9
 choose-requires : tie.Need-choose-requires
@@ -49,7 +58,7 @@ sub-t15 c = search needs
 
 -- src/lib.rt:144:61
 bytes-requires : tie.Need-bytes-requires
-bytes-requires c κs = search needs
+bytes-requires c κs = c .before .before .before .before .before .before .before .before .before .before .pre .0 .slotted .settled .widths
 
 -- src/lib.rt:151:13
 less-requires : tie.Need-less-requires
@@ -69,7 +78,23 @@ first-requires c κs = search needs
 
 -- src/lib.rt:132:1
 returns : tie.Need-returns
-returns c = search needs
+returns c = 
+    let first = c .first .ensures in
+    let bytes = c .before .before .before .before .bytes .ensures in
+    let most = c .before .before .before .before .before .before .before .before .choose .ensures in
+    let hi = c .before .before .before .before .before .before .before .before .before .bound-flag2 .ensures in
+    let lo = c .before .before .before .before .before .before .before .before .before .before .bound-flag .ensures in
+    let parts = c .before .before .before .before .before .before .before .before .before .before .before .parts-of .ensures in
+    let h = c .before .before .before .before .before .before .before .before .before .before .before .before .read .ensures .header in
+    let start = c .before .before .before .before .before .before .before .before .before .before .before .before .before .before .before in
+    let a = start .args in
+    let verdict = head-table (now (a .s)) (a .c) (a .p) (a .slot) (a .at) h parts (a .raws) bytes lo hi most (c .before .before .before .less .ensures) (c .before .less2 .ensures) first in
+    record {
+      verdict = verdict;
+      dr = λ i. h i .dr;
+      parts = parts;
+      inside = λ e. omega (arith, parts .dat, head-inside (now (a .s)) (a .c) (a .p) (a .slot) (a .at) (a .raws) (start .pre .1) (sym verdict ∙ e));
+    }
 
 pub open-spec : {M : Type 1} → statement M
 open-spec =

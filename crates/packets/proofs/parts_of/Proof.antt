@@ -1,3 +1,7 @@
+use native.Mathlib.Omega.{arith}
+use denote.Ref.{now}
+use mathlib.Core.Path.{_≡_, refl, sym, ap, _∙_}
+use Rattle.packets.proofs.Stretches.{chosen-most, parts-are}
 use borrow.Author.Needs.{needs}
 use Rattle.packets.proofs.parts_of.Statement.{statement}
 use Rattle.packets.proofs.parts_of.Tie as tie
@@ -42,11 +46,23 @@ choose-requires c κs = search needs
 
 -- src/lib.rt:127:15
 add-t14 : tie.Need-add-t14
-add-t14 c = search needs
+add-t14 c = 
+    let start = c .before .before .before .before .before .before .before .before .before in
+    let a = start .args in
+    omega (arith, c .choose .ensures, chosen-most (a .c .fs) (a .h .lsgn), start .pre .2 .sgn, start .pre .2 .dat, start .pre .2 .cnt, start .pre .1, start .pre .0 .end, start .pre .0 .short,
+      c .before .before .before .bytes-of-bits .ensures, c .before .before .before .before .all-marks .ensures .small, c .before .before .before .before .before .bytes .ensures,
+      start .pre .0 .slotted .settled .widths .dat, start .pre .0 .slotted .settled .widths .cnt, start .pre .0 .slotted .settled .widths .sgn)
 
 -- src/lib.rt:110:1
 returns : tie.Need-returns
-returns c = search needs
+returns c = 
+    let start = c .before .before .before .before .before .before .before .before .before in
+    let a = start .args in
+    parts-are (now (a .s)) (a .c) (a .p) (a .slot) (a .at) (start .pre .2 .header) (c .before .before .before .before .before .bytes .ensures)
+      (c .before .before .before .before .all-marks .ensures .value) (c .before .before .before .bytes-of-bits .ensures) (c .choose .ensures)
+      (omega (arith, c .choose .ensures, chosen-most (a .c .fs) (a .h .lsgn), start .pre .2 .sgn, start .pre .2 .dat, start .pre .2 .cnt, start .pre .1, start .pre .0 .end, start .pre .0 .short,
+      c .before .before .before .bytes-of-bits .ensures, c .before .before .before .before .all-marks .ensures .small, c .before .before .before .before .before .bytes .ensures,
+      start .pre .0 .slotted .settled .widths .dat, start .pre .0 .slotted .settled .widths .cnt, start .pre .0 .slotted .settled .widths .sgn))
 
 pub parts-of-spec : {M : Type 1} → statement M
 parts-of-spec =

@@ -1,3 +1,7 @@
+use native.Mathlib.Omega.{arith}
+use denote.Ref.{now}
+use mathlib.Core.Path.{_≡_, refl, sym, ap, _∙_}
+use Rattle.packets.proofs.Stretches.{values-are}
 use borrow.Author.Needs.{needs}
 use Rattle.packets.proofs.values.Statement.{statement}
 use Rattle.packets.proofs.values.Tie as tie
@@ -53,7 +57,10 @@ same-length c = search needs
 
 -- src/lib.rt:168:1
 returns : tie.Need-returns
-returns c = search needs
+returns c = 
+    let start = c .before .before .before .before .before .before .before .before in
+    let a = start .args in
+    values-are (now (a .s)) (a .c) (a .p) (a .slot) (a .parts .at) (start .pre .1) (now (a .cells)) (c .before .before .before .packet-values .ensures) (c .before .bytes-of-bits .ensures) (c .one .ensures)
 
 pub values-spec : {M : Type 1} → statement M
 values-spec =

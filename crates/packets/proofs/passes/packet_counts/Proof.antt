@@ -1,3 +1,4 @@
+use denote.Ref.{now}
 use Prim.Native.Nat.{_≤_, _<_, _-_, _*_, _^_, _+_}
 use mathlib.Core.Path.{_≡_, refl, sym, ap, _∙_}
 use native.Mathlib.Omega.{arith}
@@ -58,7 +59,8 @@ add-need c =
     let k = c .before .before .before .before .before .before in
     let start = k .before .before .before .before .before .before .before .before in
     let n = k .before .before .before .candidate-count .ensures in
-    omega (arith, l .inv .2, l .inv .0, n .1, count-few _ _ _ _ _ _ _ _ _ _ (lies-read (start .pre .0 .within .slotted) (omega (arith, k .before .loop-test .taken, n .0)) (k .candidate .ensures)) (c .before .before .before .before .count-line .ensures) (c .before .next .given .1))
+    let a = start .args in
+    omega (arith, l .inv .2, l .inv .0, n .1, count-few (now (a .s)) (a .c) (a .p) (now (a .cnt)) (now (a .sig)) (a .raw) (k .candidate .result) (l .at) (l .z) (l .cells) (lies-read (start .pre .0 .within .slotted) (omega (arith, k .before .loop-test .taken, n .0)) (k .candidate .ensures)) (c .before .before .before .before .count-line .ensures) (c .before .next .given .1))
 
 -- src/passes.rt:172:17
 enum-told : tie.Need-enum-told Inv-loop μ-loop
@@ -121,10 +123,11 @@ loop-again c =
     let l = k .before .before .loop in
     let start = k .before .before .before .before .before .before .before .before in
     let n = k .before .before .before .candidate-count .ensures in
+    let a = start .args in
     let below : l .j < candidates (start .args .c .shape) (start .args .slot) = omega (arith, k .before .loop-test .taken, n .0) in
     let count = c .before .before .before .before .before .count-line in
     (omega (arith, k .before .loop-test .taken), count .kept .1 .1 .1 .0 ∙ l .inv .1,
-     omega (arith, l .inv .2, count-few _ _ _ _ _ _ _ _ _ _ (lies-read (start .pre .0 .within .slotted) below (k .candidate .ensures)) (count .ensures) (c .before .before .next .given .1)),
+     omega (arith, l .inv .2, count-few (now (a .s)) (a .c) (a .p) (now (a .cnt)) (now (a .sig)) (a .raw) (k .candidate .result) (l .at) (l .z) (l .cells) (lies-read (start .pre .0 .within .slotted) below (k .candidate .ensures)) (count .ensures) (c .before .before .next .given .1)),
      marks-more _ _ _ _ _ _ (l .inv .3) (k .candidate .ensures) (c .marks-of .ensures .value),
      omega (arith, c .marks-of .ensures .small, l .inv .4),
      goes-on (l .inv .5) below (count-turn _ _ _ _ _ _ _ _ _ _ _ (k .candidate .ensures) (l .inv .3) (count .ensures) (c .before .before .next .given .1)))
