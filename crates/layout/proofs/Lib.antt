@@ -6,4 +6,10 @@ pub mod Columns
 pub mod Sums
 pub mod Reaches
 pub mod Slots
+pub mod Packets
+pub mod Places
+pub mod Existing
+pub mod Cells
+pub mod Cover
+pub mod Present
 pub mod Tables

@@ -52,8 +52,8 @@ pub Wpb-size : (s : Shape) (column β i : ℕ) → 0 < sx s i
 unfolding Wpb
 Wpb-size s column β i h =
     λ j.
-      by-letter (τx (kind s β)) (ceil-ceil (Wp s column) (sx s i) (2 ^ dx s β) h (pow-pos (dx s β)) j)
-      (ceil-ceil (Wp s column) (sx s i) (2 ^ (dx s β - 1)) h (pow-pos (dx s β - 1)) j / 2)
+    by-letter (τx (kind s β)) (ceil-ceil (Wp s column) (sx s i) (2 ^ dx s β) h (pow-pos (dx s β)) j)
+    (ceil-ceil (Wp s column) (sx s i) (2 ^ (dx s β - 1)) h (pow-pos (dx s β - 1)) j / 2)
 
 -- ---- the tests of Table B.4
 
@@ -68,7 +68,7 @@ ltb-same a b c d f g = pick (decLt a b)
         other (yes h) = absurd (n (g h))
         other (no m) = omega arith
 
-double : (n : ℕ) → 0 < n → 2 ^ n ≡ 2 * 2 ^ (n - 1)
+pub double : (n : ℕ) → 0 < n → 2 ^ n ≡ 2 * 2 ^ (n - 1)
 double zero h = absurd (omega arith)
 double (suc n) h =
     let e : suc n - 1 ≡ n = omega arith in
@@ -153,21 +153,21 @@ module _ (s : Shape) (β i : ℕ) (built : Built s) (h : i < s .nc) where
   below-same row l k z =
       ltb-same (first-y s row β i + l / sy s i) (Hb s β i) (l + L0 s β i) (L0 s β i + min (Hb s β i - first-y s row β i) (most-lines s β i) * sy s i)
       (λ a.
-        omega (
-          arith,
-          whole,
-          mul-lt-mul-of-pos-right {m = l / sy s i} {n = min (Hb s β i - first-y s row β i) (most-lines s β i)} {k = sy s i} (omega (arith, line-fits l k)) (built .sampled i h .down),
-        ))
+      omega (
+        arith,
+        whole,
+        mul-lt-mul-of-pos-right {m = l / sy s i} {n = min (Hb s β i - first-y s row β i) (most-lines s β i)} {k = sy s i} (omega (arith, line-fits l k)) (built .sampled i h .down),
+      ))
       (λ a.
-        let q = lt-of-mul-lt-mul-right (sy s i) {m = l / sy s i} {n = min (Hb s β i - first-y s row β i) (most-lines s β i)} (omega (arith, whole)) in
-        omega (arith, q))
+      let q = lt-of-mul-lt-mul-right (sy s i) {m = l / sy s i} {n = min (Hb s β i - first-y s row β i) (most-lines s β i)} (omega (arith, whole)) in
+      omega (arith, q))
     where
       whole : l / sy s i * sy s i ≡ l
       whole = omega (arith, div-add-mod' l (sy s i), z)
 
   -- Table B.4's three tests: the band exists, the line is one of its component's, and it is not below the band
   pub included-is : (row l : ℕ) → l < 2 ^ (s .nly - dy s β)
-    → (exists s β i && eqb (l % sy s i) 0 && ltb (first-y s row β i + l / sy s i) (Hb s β i)) ≡ included s row β i l
+      → (exists s β i && eqb (l % sy s i) 0 && ltb (first-y s row β i + l / sy s i) (Hb s β i)) ≡ included s row β i l
   unfolding included
   included-is row l k =
       and-same (exists s β i) (eqb (l % sy s i) 0) (ltb (first-y s row β i + l / sy s i) (Hb s β i)) (eqb ((l + L0 s β i) % sy s i) 0)
@@ -178,3 +178,26 @@ module _ (s : Shape) (β i : ℕ) (built : Built s) (h : i < s .nc) where
   pub Hb-letter : by-letter (τy (kind s β)) (low-size (Hc s i) (depth s β i)) (high-size (Hc s i) (depth s β i)) ≡ Hb s β i
   unfolding Hb
   Hb-letter = sym (rows-letter (Hc s i) (kind s β) (depth s β i))
+
+-- ---- rows of precincts and rows of a component
+
+module _ (s : Shape) (i : ℕ) (built : Built s) (h : i < s .nc) where
+  -- the rows of the grid that a row of a component's lowest band takes
+  pub scale : sy s i * 2 ^ N′y s i ≡ 2 ^ s .nly
+  scale = by (decLe (sy s i) 1)
+    where
+      by : Dec (sy s i ≤ 1) → sy s i * 2 ^ N′y s i ≡ 2 ^ s .nly
+      by (yes m) =
+          let one : sy s i ≡ 1 = omega (arith, built .sampled i h .down) in
+          let e : s .nly - 1 / 2 ≡ s .nly = omega arith in
+          rw one (rw e (one-mul (2 ^ s .nly)))
+      by (no n) =
+          let t : sy s i ≡ 2 = omega (arith, built .sampled i h .down-less, built .sampled i h .across-two) in
+          let e : s .nly - 2 / 2 ≡ s .nly - 1 = omega arith in
+          let u : 0 < s .nly = omega (arith, rw t at (built .sampled i h .enough)) in
+          rw t (rw e (sym (double (s .nly) u)))
+
+  -- the lowest rows of a component are as many as the rows of precincts
+  pub rows-low : low-size (Hc s i) (N′y s i) ≡ Npy s
+  unfolding Hc Npy
+  rows-low = ceil-ceil (s .hf) (sy s i) (2 ^ N′y s i) (built .sampled i h .down) (pow-pos (N′y s i)) ∙ ap (ceilDiv (s .hf)) scale

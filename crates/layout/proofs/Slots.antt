@@ -55,8 +55,8 @@ module _ (s : Shape) (built : Built s) where
     unfolding dy
     later-depth h =
         let d : down-of (s .nlx) (s .nly) (β₁ s + 3 * level-group (turn-of k) + (k - 1) % 3) ≡ s .nly - level-group (turn-of k) =
-            type-both (s .nlx) (s .nly) (β₁ s + 3 * level-group (turn-of k) + (k - 1) % 3) (omega arith) .down
-            ∙ ap (λ (q : ℕ). s .nly - q) (quotient (β₁ s) (level-group (turn-of k)) (k - 1))
+        type-both (s .nlx) (s .nly) (β₁ s + 3 * level-group (turn-of k) + (k - 1) % 3) (omega arith) .down
+        ∙ ap (λ (q : ℕ). s .nly - q) (quotient (β₁ s) (level-group (turn-of k)) (k - 1))
         in
         rw later-type (omega (arith, d, later-turn h .0))
       where
@@ -102,8 +102,7 @@ module _ (s : Shape) (built : Built s) where
             let l : j < 1 * s .nc = rw (later-types k up) at c in
             let q : j / s .nc ≡ 0 = div-eq-of-lt (omega (arith, l)) in
             let t = later-turn k up h in
-            let z : slot-type s k + 0 ≡ slot-type s k = omega arith in
-            (
+            let z : slot-type s k + 0 ≡ slot-type s k = omega arith in (
               rw (q, z) (omega (arith, later-type k up, types, t .0, mod-lt (k - 1) {m = 3} (omega arith))),
               omega (arith, later-line k up, slots-most, h),
               rw (q, z) (rw (later-depth k up h, later-line k up) (t .2)),

@@ -92,8 +92,8 @@ reach-of b row l =
     record {
       y = row * 2 ^ (b .part .ny - b .filter .dy) + l / b .part .sy;
       present =
-        b .exists && eqb (l % b .part .sy) 0
-        && ltb (row * 2 ^ (b .part .ny - b .filter .dy) + l / b .part .sy) (by-letter (b .filter .ty) (low-size (b .part .h) (b .filter .dy)) (high-size (b .part .h) (b .filter .dy)));
+          b .exists && eqb (l % b .part .sy) 0
+          && ltb (row * 2 ^ (b .part .ny - b .filter .dy) + l / b .part .sy) (by-letter (b .filter .ty) (low-size (b .part .h) (b .filter .dy)) (high-size (b .part .h) (b .filter .dy)));
     }
 
 abbrev pub span-of : Band → Column → Span

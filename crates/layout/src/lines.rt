@@ -1,8 +1,16 @@
 // The packets that a precinct can have ("slots"), the lines of each, and the cells in which their coefficients lie.
-use crate::bands::{band_of, component_of, Band};
-use crate::numbers::{ceil_div, place, power, product, size};
-use crate::precincts::{column_of, Column};
-use crate::{Line, Shape};
+use crate::Line;
+use crate::Shape;
+use crate::bands::Band;
+use crate::bands::band_of;
+use crate::bands::component_of;
+use crate::numbers::ceil_div;
+use crate::numbers::place;
+use crate::numbers::power;
+use crate::numbers::product;
+use crate::numbers::size;
+use crate::precincts::Column;
+use crate::precincts::column_of;
 ghost use mathlib.Core.Path.{_≡_};
 ghost use Prim.Native.Nat.{_+_, _*_, _-_, _<_, _≤_, _^_};
 ghost use Rattle.layout.specs.Bands.{Nβ, dy};

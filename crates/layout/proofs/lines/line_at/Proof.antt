@@ -21,8 +21,7 @@ line-of-requires c κs =
     let s = e .args .s in
     let j = e .args .j in
     let f = slot-fits s (e .pre .0) (e .args .k) j (e .pre .3) (e .pre .4) in
-    let back = sym (c .before .slot-of .ensures) in
-    (
+    let back = sym (c .before .slot-of .ensures) in (
       (e .pre .0, e .pre .1, e .pre .2),
       (
         subst (λ (t : Slot). t .first + j / s .nc < Nβ s) back (f .0),

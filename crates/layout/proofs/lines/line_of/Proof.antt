@@ -106,24 +106,24 @@ returns c =
     let w : sp .span-of .result ≡ span-of (band-of s β n) (column-of s (e .args .column)) = sp .span-of .ensures .is ∙ (λ j. span-of (b j) (co .column-of .ensures .is j)) in
     let width : sp .span-of .result .width ≡ Wpb s (e .args .column) β n = ap (λ (x : Span). x .width) w ∙ Wpb-size s (e .args .column) β n (built .sampled n (e .pre .1 .1) .across) in
     let there : re .reach-of .result .present ≡ included s (e .args .row) β n (e .args .l) =
-        ap (λ (x : Reach). x .present) r
-        ∙ (λ j. exists s β n && eqb (e .args .l % sy s n) 0 && ltb (first-y s (e .args .row) β n + e .args .l / sy s n) (Hb-letter s β n built (e .pre .1 .1) j))
-        ∙ included-is s β n built (e .pre .1 .1) (e .args .row) (e .args .l) (e .pre .1 .3)
+    ap (λ (x : Reach). x .present) r
+    ∙ (λ j. exists s β n && eqb (e .args .l % sy s n) 0 && ltb (first-y s (e .args .row) β n + e .args .l / sy s n) (Hb-letter s β n built (e .pre .1 .1) j))
+    ∙ included-is s β n built (e .pre .1 .1) (e .args .row) (e .args .l) (e .pre .1 .3)
     in
     λ j.
-      record {
-        present = there j;
-        band = band s β n;
-        component = n;
-        cell = 2 * sb .samples-before .ensures .0 j + (ce .cell-of .ensures .0 ∙ (λ k. inner-of (b k) (w k .x) (r k .y))) j;
-        stride = (pw .power .ensures .is ∙ (λ k. 2 ^ b k .filter .dx)) j;
-        width = width j;
-        groups = (d1 .ceil-div .ensures ∙ ap Ncg width) j;
-        marks = (d2 .ceil-div2 .ensures ∙ ap Ns width) j;
-        y = r j .y;
-        area = (p1 .product .ensures .0 ∙ (λ k. b k .part .w * b k .part .h)) j;
-        up = (c .product2 .ensures .0 ∙ (λ k. (p2 .power2 .ensures .is ∙ (λ m. 2 ^ b m .filter .dy)) k * b k .part .w)) j;
-      }
+    record {
+      present = there j;
+      band = band s β n;
+      component = n;
+      cell = 2 * sb .samples-before .ensures .0 j + (ce .cell-of .ensures .0 ∙ (λ k. inner-of (b k) (w k .x) (r k .y))) j;
+      stride = (pw .power .ensures .is ∙ (λ k. 2 ^ b k .filter .dx)) j;
+      width = width j;
+      groups = (d1 .ceil-div .ensures ∙ ap Ncg width) j;
+      marks = (d2 .ceil-div2 .ensures ∙ ap Ns width) j;
+      y = r j .y;
+      area = (p1 .product .ensures .0 ∙ (λ k. b k .part .w * b k .part .h)) j;
+      up = (c .product2 .ensures .0 ∙ (λ k. (p2 .power2 .ensures .is ∙ (λ m. 2 ^ b m .filter .dy)) k * b k .part .w)) j;
+    }
 
 pub line-of-spec : {M : Type 1} → statement M
 line-of-spec =

@@ -16,11 +16,11 @@ returns c =
     let s = e .args .s in
     let zero = c .if1 .taken in
     λ i.
-      record {
-        first = sym (first-type s (e .pre .0) zero) i;
-        types = (sym (first-is (s .nlx) (s .nly) (e .pre .0 .no-more)) ∙ sym (first-count s (e .pre .0) zero)) i;
-        line = sym (first-line s (e .pre .0) zero) i;
-      }
+    record {
+      first = sym (first-type s (e .pre .0) zero) i;
+      types = (sym (first-is (s .nlx) (s .nly) (e .pre .0 .no-more)) ∙ sym (first-count s (e .pre .0) zero)) i;
+      line = sym (first-line s (e .pre .0) zero) i;
+    }
 
 power-requires : tie.Need-power-requires
 power-requires c κs =
@@ -39,11 +39,11 @@ returns-2 c =
     let k = e .args .k in
     let up = c .before .if1 .left in
     λ i.
-      record {
-        first = (ap (λ (f : ℕ). f + 3 * (turn-of k / 2) + (k - 1) % 3) (sym (first-is (s .nlx) (s .nly) (e .pre .0 .no-more))) ∙ sym (later-type s (e .pre .0) k up)) i;
-        types = sym (later-types s (e .pre .0) k up) i;
-        line = (ap (λ (p : ℕ). turn-of k - p) (c .power .ensures .is) ∙ sym (later-line s (e .pre .0) k up)) i;
-      }
+    record {
+      first = (ap (λ (f : ℕ). f + 3 * (turn-of k / 2) + (k - 1) % 3) (sym (first-is (s .nlx) (s .nly) (e .pre .0 .no-more))) ∙ sym (later-type s (e .pre .0) k up)) i;
+      types = sym (later-types s (e .pre .0) k up) i;
+      line = (ap (λ (p : ℕ). turn-of k - p) (c .power .ensures .is) ∙ sym (later-line s (e .pre .0) k up)) i;
+    }
 
 pub slot-of-spec : {M : Type 1} → statement M
 slot-of-spec =
