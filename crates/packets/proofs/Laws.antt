@@ -1,5 +1,5 @@
 -- What a packet leaves, for the layers above: where it ends, and which cells it changes. Assumes nothing.
-use mathlib.Core.Path.{_≡_, refl, sym, ap, _∙_}
+use mathlib.Core.Path.{_≡_, refl, ap, _∙_}
 use mathlib.Core.Bool.{Bool, true, false, cond}
 use mathlib.Core.List.{List, _++_}
 use Prim.Native.Nat.{ℕ, _+_, _-_, _*_, _≤_, _<_}
@@ -27,10 +27,10 @@ use Rattle.values.specs.Line.{lineValues}
 use Rattle.values.proofs.Laws.{line-length as values-length, line-other as values-other}
 use Rattle.packets.specs.declared.Setting.{Setting}
 use Rattle.packets.specs.declared.Precinct.{Precinct}
-use Rattle.packets.specs.Precincts.{stretch}
 use Rattle.packets.specs.Passes.{line, marks, codingOf, placeOf, Counting, counted, countTurn, packetCounts, valuesOf, valued, valueTurn, packetValues}
 use Rattle.packets.specs.Packets.{past, datAt, headChecks, countChecks, dataChecks, valuesBy, afterCounts, countsBy, packet}
-use Rattle.packets.specs.Steps.{Slotted, countsOf}
+use Rattle.packets.specs.Ready.{Slotted}
+use Rattle.packets.specs.Steps.{countsOf}
 use Rattle.packets.proofs.Lines.{lies}
 use Rattle.packets.proofs.Stretches.{head-inside}
 
@@ -72,9 +72,9 @@ module _ (s : List ℕ) (c : Setting) (p : Precinct) (slot at : ℕ) where
 
 module _ (c : Setting) (p : Precinct) (slot : ℕ) (P : List ℤ → Type 0)
     (counts : (j : ℕ) → j < candidates (c .shape) slot → line c p slot j .present ≡ true
-      → (cnt sig : List ℕ) (k : Coding) (i z : ℕ) (cells : List ℤ) → P cells → P (lineCounts cnt sig k (placeOf (line c p slot j)) i z cells .1))
+    → (cnt sig : List ℕ) (k : Coding) (i z : ℕ) (cells : List ℤ) → P cells → P (lineCounts cnt sig k (placeOf (line c p slot j)) i z cells .1))
     (values : (j : ℕ) → j < candidates (c .shape) slot → line c p slot j .present ≡ true
-      → (dat sgn : List ℕ) (from : Next) (cells : List ℤ) → P cells → P (lineValues dat sgn (valuesOf c) (valued c p (line c p slot j)) from cells .1)) where
+    → (dat sgn : List ℕ) (from : Next) (cells : List ℤ) → P cells → P (lineValues dat sgn (valuesOf c) (valued c p (line c p slot j)) from cells .1)) where
   counted-keeps : (need : ℕ) (x : Counted × List ℤ) → P (x .1) → Kept (λ (x : Counting). P (x .2)) (λ (x : Counted × List ℤ). P (x .1)) (counted need x)
   counted-keeps need (Done next more, cells) h = h
   counted-keeps need (Cut, cells) h = h
@@ -88,7 +88,7 @@ module _ (c : Setting) (p : Precinct) (slot : ℕ) (P : List ℤ → Type 0)
     where
       pick : (j : ℕ) (x : Counting) → j < candidates (c .shape) slot → P (x .2) → (b : Bool) → line c p slot j .present ≡ b
           → Kept (λ (x : Counting). P (x .2)) (λ (x : Counted × List ℤ). P (x .1))
-            (cond b (counted (x .1) (lineCounts cnt sig (codingOf s c p raw (line c p slot j .band)) (placeOf (line c p slot j)) (x .0) (marks s c p slot raw j) (x .2))) (go x))
+          (cond b (counted (x .1) (lineCounts cnt sig (codingOf s c p raw (line c p slot j .band)) (placeOf (line c p slot j)) (x .0) (marks s c p slot raw j) (x .2))) (go x))
       pick j x l k true e =
           let code = codingOf s c p raw (line c p slot j .band) in
           counted-keeps (x .1) (lineCounts cnt sig code (placeOf (line c p slot j)) (x .0) (marks s c p slot raw j) (x .2)) (counts j l e cnt sig code (x .0) (marks s c p slot raw j) (x .2) k)
