@@ -1,0 +1,5 @@
+-- Laws of the packets, and the lemmas of the code's proofs.
+pub mod Lines
+pub mod LinePasses
+pub mod Stretches
+pub mod Laws

@@ -1,0 +1,6 @@
+-- Annex C: one packet of a precinct.
+pub mod Precincts
+pub mod Ready
+pub mod Passes
+pub mod Packets
+pub mod Steps

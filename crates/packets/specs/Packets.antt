@@ -1,0 +1,126 @@
+-- C.3 and C.4: a packet, its header and its subpackets in their order. Each subpacket is judged whole before the next: does it run past the precinct,
+-- then its content. `slot` says which of its precinct's packets it is, `at` where its header stands.
+use Prim.Native.Nat.{ℕ, zero, suc, _+_, _-_, _/_}
+use mathlib.Core.Bool.{Bool, false, not, cond, _&&_, _||_}
+use mathlib.Core.List.{List, [], _∷_, _++_}
+use lib.Dec.{eqb, leb}
+use lib.IntN.{ℤ}
+use lib.ListN.{getD}
+use Rattle.whole.specs.Numbers.{ceilDiv}
+use Rattle.rows.specs.Rows.{check, ample, first}
+use Rattle.rows.specs.declared.Check.{Check}
+use Rattle.rows.specs.declared.Verdict.{Verdict}
+use Rattle.rows.specs.declared.Verdict.the-variants.{Fine, Refused}
+use Rattle.rows.specs.declared.Row.the-variants.{Value, Length, Count, Mode}
+use Rattle.rows.specs.declared.Field.the-variants.{Packet, Dr, Lsgn, Significance, Counts, Data, Signs}
+use Rattle.bits.specs.Packet.{headerAt, headerBytes}
+use Rattle.bits.specs.declared.packet.PacketHeader.{PacketHeader}
+use Rattle.layout.specs.Slots.{candidates}
+use Rattle.counts.specs.declared.Line.{Line as Counted}
+use Rattle.counts.specs.declared.Line.the-variants.{Done, Cut, High}
+use Rattle.values.specs.declared.Next.{Next}
+use Rattle.packets.specs.declared.Setting.{Setting}
+use Rattle.packets.specs.declared.Precinct.{Precinct}
+use Rattle.packets.specs.Precincts.{stretch}
+use Rattle.packets.specs.Passes.{line, marks, packetCounts, packetValues}
+
+-- 'An empty packet has no header': whether one of the first n candidates of the slot is there
+unfoldable pub anyLine : Setting → Precinct → ℕ → ℕ → Bool
+anyLine c p slot zero = false
+anyLine c p slot (suc n) = anyLine c p slot n || line c p slot n .present
+
+-- C.3: two packets of a precinct share bands where they are two lines of one filter type: slots 7, 8 and 9 follow slots 4, 5 and 6. With Rl = 0 they have
+-- one raw flag. `raws` are the flags of the earlier slots
+abbrev pub second : ℕ → Bool
+second slot = leb 7 slot
+
+abbrev pub bound : Setting → ℕ → Bool
+bound c slot = not (c .rl) && second slot
+
+abbrev pub leastDr : Setting → ℕ → List ℕ → ℕ
+leastDr c slot raws = cond (bound c slot) (getD raws (slot - 3) 0) 0
+
+abbrev pub mostDr : Setting → ℕ → List ℕ → ℕ
+mostDr c slot raws = cond (bound c slot) (getD raws (slot - 3) 0) 1
+
+module _ (s : List ℕ) (c : Setting) (p : Precinct) (slot at : ℕ) where
+  -- Table C.4
+  abbrev pub head : PacketHeader
+  head = headerAt s at (c .widths)
+
+  abbrev pub raw : Bool
+  raw = eqb (head .dr) 1
+
+  -- Table C.5: the places of the subpackets, and the place behind the packet. The significance subpacket's length is inferred
+  abbrev pub sigAt : ℕ
+  sigAt = at + headerBytes (c .widths)
+
+  unfoldable pub Lsig : ℕ
+  Lsig = ceilDiv (marks s c p slot raw (candidates (c .shape) slot)) 8
+
+  abbrev pub cntAt : ℕ
+  cntAt = sigAt + Lsig
+
+  abbrev pub datAt : ℕ
+  datAt = cntAt + head .lcnt
+
+  abbrev pub sgnAt : ℕ
+  sgnAt = datAt + head .ldat
+
+  -- with Fs = 0 there is no sign subpacket
+  abbrev pub Lsign : ℕ
+  Lsign = cond (c .fs) (head .lsgn) 0
+
+  abbrev pub past : ℕ
+  past = sgnAt + Lsign
+
+  -- the header, as far as the counts' length: 'a packet header runs past its precinct' and, of the subpackets, 'runs past its precinct' are 6
+  abbrev pub headChecks : List ℕ → List Check
+  headChecks raws =
+      check Length (p .at) Packet (p .end - at) (headerBytes (c .widths)) ample
+      ∷ check Mode at Dr (head .dr) (leastDr c slot raws) (mostDr c slot raws)
+      ∷ check Value (at + (1 + c .widths .dat + c .widths .cnt) / 8) Lsgn (head .lsgn) 0 (cond (c .fs) ample 0)
+      ∷ check Length sigAt Significance (p .end - sigAt) Lsig ample
+      ∷ check Length cntAt Counts (p .end - cntAt) (head .lcnt) ample
+      ∷ []
+
+  -- the counts: a code that is cut wants more bytes than are declared
+  abbrev pub countChecks : Counted → List Check
+  countChecks (Done next need) = []
+  countChecks Cut = check Length cntAt Counts (head .lcnt) (head .lcnt + 1) ample ∷ []
+  countChecks High = check Count cntAt Counts 32 0 31 ∷ []
+
+  -- the data, of `need` nibbles, and the signs' length
+  abbrev pub dataChecks : Counted → List Check
+  dataChecks (Done next need) =
+      check Length datAt Data (p .end - datAt) (head .ldat) ample
+      ∷ check Length datAt Data (head .ldat) (ceilDiv need 2) ample
+      ∷ check Length sgnAt Signs (p .end - sgnAt) Lsign ample
+      ∷ []
+  dataChecks Cut = []
+  dataChecks High = []
+
+  -- the signs, of `used` bits
+  abbrev pub signChecks : ℕ → List Check
+  signChecks used = check Length sgnAt Signs Lsign (ceilDiv used 8) ample ∷ []
+
+  -- what a packet leaves: the verdict, and the cells
+  abbrev pub Left : Type 0
+  Left = Verdict × List ℤ
+
+  abbrev pub afterValues : Next × List ℤ → Left
+  afterValues x = (first (signChecks (x .0 .sign)), x .1)
+
+  abbrev pub valuesBy : Verdict → List ℤ → Left
+  valuesBy Fine cells = afterValues (packetValues c p slot (stretch s datAt (head .ldat)) (stretch s sgnAt Lsign) cells)
+  valuesBy (Refused k) cells = (Refused k, cells)
+
+  abbrev pub afterCounts : Counted × List ℤ → Left
+  afterCounts x = valuesBy (first (countChecks (x .0) ++ dataChecks (x .0))) (x .1)
+
+  abbrev pub countsBy : Verdict → List ℤ → Left
+  countsBy Fine cells = afterCounts (packetCounts s c p slot (stretch s cntAt (head .lcnt)) (stretch s sigAt Lsig) raw cells)
+  countsBy (Refused k) cells = (Refused k, cells)
+
+  unfoldable pub packet : List ℕ → List ℤ → Left
+  packet raws cells = countsBy (first (headChecks raws)) cells
