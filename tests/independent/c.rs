@@ -18,8 +18,8 @@ pub struct BandData {
     line_t: Vec<u32>,
 }
 
-/// Reads all slices and the end marker.
-pub fn codestream(s: &[u8], header: &Header, layout: &Layout) -> Result<Vec<Option<BandData>>, Refusal> {
+/// Reads all slices and the end marker, and gives each existing band's coefficients.
+pub fn codestream(s: &[u8], header: &Header, layout: &Layout) -> Result<Vec<BandData>, Refusal> {
     let mut reader = Reader::new(s, header, layout);
     let mut at = header.first_slice;
     let (mut t, mut first_row) = (0, 0);
@@ -36,7 +36,7 @@ pub fn codestream(s: &[u8], header: &Header, layout: &Layout) -> Result<Vec<Opti
         t += 1;
     }
     a::end_of_codestream(s, at)?;
-    Ok(reader.bands)
+    Ok(reader.bands.into_iter().flatten().collect())
 }
 
 /// How a precinct codes one band.

@@ -2,14 +2,13 @@
 
 use super::a::Header;
 use super::b::Layout;
-use super::c::BandData;
 use super::e;
 
-/// The distance of each component.
-pub fn components(header: &Header, layout: &Layout, bands: &[Option<BandData>]) -> Vec<u64> {
+/// The distance of each component, from the largest truncation position of each existing band.
+pub fn components(header: &Header, layout: &Layout, largest_t: &[u32]) -> Vec<u64> {
     let mut inputs: Vec<Vec<u64>> = layout.planes.iter().map(|_| Vec::new()).collect();
-    for (band, data) in layout.bands.iter().flatten().zip(bands.iter().flatten()) {
-        inputs[band.component].push(band_number(data.largest_t, header.fq));
+    for (band, &t) in layout.bands.iter().flatten().zip(largest_t) {
+        inputs[band.component].push(band_number(t, header.fq));
     }
     let planes = inputs.into_iter().zip(&layout.planes);
     let mut numbers: Vec<u64> =

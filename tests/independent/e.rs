@@ -1,7 +1,6 @@
 //! Annex E: the inverse wavelet transformation.
 
 use super::b::Layout;
-use super::c::BandData;
 
 /// A rectangle of values, row by row: a temporary band of Annex E, or a component.
 pub struct Plane {
@@ -16,11 +15,11 @@ impl Plane {
     }
 }
 
-/// Transforms each component.
-pub fn components(layout: &Layout, bands: Vec<Option<BandData>>) -> Vec<Plane> {
+/// Transforms each component, from the coefficients of each existing band.
+pub fn components(layout: &Layout, cells: impl Iterator<Item = Vec<i64>>) -> Vec<Plane> {
     let mut inputs: Vec<Vec<Plane>> = layout.planes.iter().map(|_| Vec::new()).collect();
-    for (band, data) in layout.bands.iter().flatten().zip(bands.into_iter().flatten()) {
-        inputs[band.component].push(Plane { width: band.width, height: band.height, cells: data.cells });
+    for (band, cells) in layout.bands.iter().flatten().zip(cells) {
+        inputs[band.component].push(Plane { width: band.width, height: band.height, cells });
     }
     let planes = inputs.into_iter().zip(&layout.planes);
     planes.map(|(bands, plane)| inverse(bands, plane.nlx, plane.nly, &join_across, &join_down)).collect()

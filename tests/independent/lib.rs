@@ -63,22 +63,28 @@ pub fn read(s: &[u8], room: usize) -> Result<Page, Refusal> {
     let layout = b::Layout::new(&header);
     require(layout.samples() <= room, Row::Buffer, header.first_slice)?;
     let bands = c::codestream(s, &header, &layout)?;
-    let numbers = distance::components(&header, &layout, &bands);
-    let mut planes = e::components(&layout, bands);
+    let largest_t: Vec<u32> = bands.iter().map(|band| band.largest_t).collect();
+    let distances = distance::components(&header, &layout, &largest_t);
+    let samples = reconstruct(&header, &layout, bands.into_iter().map(|band| band.cells));
+    let components = header.cdt.iter().zip(&layout.planes).zip(distances.into_iter().zip(samples));
+    let components = components.map(|((entry, plane), (distance, samples))| Component {
+        width: plane.width,
+        height: plane.height,
+        precision: entry.b,
+        distance,
+        samples,
+    });
+    Ok(Page { components: components.collect(), caption: header.caption.is_some() })
+}
+
+/// The samples of each component from the coefficients of each existing band, multiplied by 2^Fq (Annexes E to G).
+pub fn reconstruct(header: &a::Header, layout: &b::Layout, cells: impl Iterator<Item = Vec<i64>>) -> Vec<Vec<u16>> {
+    let mut planes = e::components(layout, cells);
     if header.cpih == 1 {
         f::inverse_rct(&mut planes);
     }
-    let components = header.cdt.iter().zip(planes).zip(numbers);
-    let components = components
-        .map(|((entry, plane), distance)| Component {
-            width: plane.width,
-            height: plane.height,
-            precision: entry.b,
-            distance,
-            samples: g::output(&plane.cells, header.bw, entry.b),
-        })
-        .collect();
-    Ok(Page { components, caption: header.caption.is_some() })
+    let outputs = planes.into_iter().zip(&header.cdt);
+    outputs.map(|(plane, entry)| g::output(&plane.cells, header.bw, entry.b)).collect()
 }
 
 /// The bench caption: the stream's own bytes; empty when there is none or the header is refused.
