@@ -4,7 +4,8 @@ set -eu
 out=${1:?"usage: build.sh FOLDER"}
 here=$(dirname "$0")
 mkdir -p "$out"
-build() { rustc -O --edition 2021 -D warnings "$@"; }
+build() { rustc -O --edition 2021 -D warnings -L "$out" "$@"; }
 build --crate-type rlib --crate-name independent "$here/independent/lib.rs" --out-dir "$out"
-program() { build --extern independent="$out/libindependent.rlib" --crate-name "$1" "$2" -o "$out/$1"; }
-program page "$here/independent/main.rs"
+build --extern independent --crate-name page "$here/independent/main.rs" -o "$out/page"
+build --extern independent --crate-type rlib --crate-name streams "$here/streams/lib.rs" --out-dir "$out"
+build --extern independent --extern streams --crate-name stream "$here/streams/main.rs" -o "$out/stream"

@@ -1,0 +1,146 @@
+//! Headers: random ones that the reader must accept, and those of pages for measuring.
+
+use crate::rng::Rng;
+use independent::a::{CdtEntry, Header, Weight};
+use independent::b::Layout;
+
+/// How large a page may get.
+#[derive(Clone, Copy)]
+pub struct Limits {
+    pub samples: usize,
+    pub bytes: usize,
+    pub side: usize,
+}
+
+/// What the page program takes.
+pub const SMALL: Limits = Limits { samples: 2_048, bytes: 16_384, side: 160 };
+
+/// Pages of many precincts, some with long packet headers because of their width.
+pub const LARGE: Limits = Limits { samples: 400_000, bytes: usize::MAX, side: 16_384 };
+
+/// A header for a page within the limits. All values of its fields that are built occur.
+pub fn random(rng: &mut Rng, limits: Limits) -> Header {
+    loop {
+        let mut header = fields(rng, limits);
+        if accepted(&header) && Layout::new(&header).samples() <= limits.samples {
+            header.wgt = weights(rng, &header);
+            return header;
+        }
+    }
+}
+
+/// A header for a picture to measure with: one slice for each 16 precincts, all bands alike, long packet headers.
+pub fn measured(wf: usize, hf: usize, components: usize, b: u32, lossless: bool, sy: usize) -> Header {
+    let chroma = CdtEntry { b, sx: sy, sy };
+    let full = CdtEntry { b, sx: 1, sy: 1 };
+    let cdt: Vec<CdtEntry> = (0..components).map(|c| if c == 0 { full } else { chroma }).collect();
+    let mut header = Header {
+        wf,
+        hf,
+        cw: 0,
+        hsl: 16,
+        nc: components,
+        bw: if lossless { b } else { 20 },
+        fq: if lossless { 0 } else { 8 },
+        br: if lossless && b > 12 { 5 } else { 4 },
+        cpih: u8::from(components == 3 && sy == 1),
+        nlx: 5,
+        nly: 2,
+        lh: true,
+        rl: false,
+        qpih: 0,
+        fs: false,
+        rm: false,
+        cdt,
+        wgt: Vec::new(),
+        caption: None,
+        first_slice: 0,
+    };
+    header.wgt = vec![Weight { gain: 0, priority: 0 }; Layout::new(&header).existing()];
+    header
+}
+
+fn fields(rng: &mut Rng, limits: Limits) -> Header {
+    let nc = rng.between(1, 4);
+    let lossless = rng.once_in(2);
+    let bw = if lossless { rng.between(8, 16) as u32 } else { 20 };
+    let sampling = sampling(rng, nc);
+    let cdt: Vec<CdtEntry> = sampling
+        .iter()
+        .map(|&(sx, sy)| CdtEntry { b: if lossless { bw } else { rng.between(8, 16) as u32 }, sx, sy })
+        .collect();
+    let full = sampling.iter().all(|&(sx, _)| sx == 1);
+    let nlx = rng.between(1, 5) as u32;
+    let wf = side(rng, limits.side);
+    let hf = side(rng, limits.side.min(limits.samples * 2 / wf + 1));
+    Header {
+        wf,
+        hf,
+        cw: if rng.once_in(2) { 0 } else { rng.between(1, 3) },
+        hsl: if rng.once_in(8) { 65_535 } else { rng.between(1, 5) },
+        nc,
+        bw,
+        fq: if lossless { 0 } else { 8 },
+        br: if lossless && bw > 12 { 5 } else { 4 },
+        cpih: u8::from(nc >= 3 && full && rng.once_in(2)),
+        nlx,
+        nly: rng.between(0, 2.min(nlx as usize)) as u32,
+        lh: rng.once_in(3) || limits.side > SMALL.side,
+        rl: rng.once_in(2),
+        qpih: u8::from(rng.once_in(2)),
+        fs: rng.once_in(2),
+        rm: rng.once_in(2),
+        cdt,
+        wgt: Vec::new(),
+        caption: None,
+        first_slice: 0,
+    }
+}
+
+/// Sampling factors: the usual ones, and any others that Table A.15 allows.
+fn sampling(rng: &mut Rng, nc: usize) -> Vec<(usize, usize)> {
+    let any = [(1, 1), (2, 1), (2, 2)];
+    let common = rng.pick(&any);
+    let mixed = rng.once_in(4);
+    let chroma = |c| c == 1 || c == 2;
+    (0..nc)
+        .map(|c| {
+            if !chroma(c) {
+                (1, 1)
+            } else if mixed {
+                rng.pick(&any)
+            } else {
+                common
+            }
+        })
+        .collect()
+}
+
+/// A width or height, often a small one.
+fn side(rng: &mut Rng, most: usize) -> usize {
+    let most = most.max(1);
+    match rng.below(4) {
+        0 => rng.between(1, 8.min(most)),
+        1 => rng.between(1, 40.min(most)),
+        _ => rng.between(1, most),
+    }
+}
+
+/// The rules of Table A.7 and document 01 that join several fields.
+fn accepted(header: &Header) -> bool {
+    let two = |n: usize, levels: u32| levels == 0 || (n - 1) >> (levels - 1) > 0;
+    let levels_fit = header.cdt.iter().all(|entry| {
+        let nly = (header.nly + 1).checked_sub(entry.sy as u32);
+        let (width, height) = ((header.wf + entry.sx - 1) / entry.sx, (header.hf + entry.sy - 1) / entry.sy);
+        nly.map_or(false, |nly| two(width, header.nlx) && two(height, nly))
+    });
+    let max_sx = header.cdt.iter().map(|entry| entry.sx).max().unwrap_or(1);
+    let least = max_sx << header.nlx;
+    levels_fit && (header.cw == 0 || header.wf % (8 * header.cw * least) >= least)
+}
+
+fn weights(rng: &mut Rng, header: &Header) -> Vec<Weight> {
+    let most = rng.pick(&[0, 3, 15]);
+    let weight = |_| Weight { gain: rng.between(0, most) as u8, priority: rng.pick(&[0, 1, 2, 5, 20, 80, 255]) };
+    (0..Layout::new(header).existing()).map(weight).collect()
+}
