@@ -9,3 +9,4 @@ build --crate-type rlib --crate-name independent "$here/independent/lib.rs" --ou
 build --extern independent --crate-name page "$here/independent/main.rs" -o "$out/page"
 build --extern independent --crate-type rlib --crate-name streams "$here/streams/lib.rs" --out-dir "$out"
 build --extern independent --extern streams --crate-name stream "$here/streams/main.rs" -o "$out/stream"
+build --extern independent --extern streams --crate-name compare "$here/compare/main.rs" -o "$out/compare"

@@ -42,6 +42,8 @@ pub const KINDS: [(&str, Kind); 5] = [
 pub struct Made {
     pub name: String,
     pub bytes: Vec<u8>,
+    /// Whether the reader must accept it.
+    pub sound: bool,
     /// For encoded coefficients: the samples that they give without quantization, by component.
     pub exact: Option<Vec<Vec<u16>>>,
 }
@@ -65,7 +67,7 @@ pub fn make(kind: Kind, seed: u64, limits: Limits) -> Made {
             (format!("{:?}-{}", kind, seed).to_lowercase(), stream.bytes, exact)
         }
     };
-    Made { name, bytes, exact }
+    Made { name, bytes, sound: !matches!(kind, Kind::Damaged | Kind::Foreign), exact }
 }
 
 /// Makes a sheet of letters to measure with.
