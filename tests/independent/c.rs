@@ -1,25 +1,24 @@
 //! Annex C: precinct headers, packets and entropy decoding.
 
 use super::a::{self, Header};
-use super::b::{ceil_div, Layout, Line, NG, SS};
+use super::b::{ceil_div, Band, Layout, Line, NG, SS};
 use super::d;
+use super::e::{self, Plane};
 use super::{require, Refusal, Row};
 use std::ops::Range;
 
 /// What is kept of an existing band while the stream is read.
-pub struct BandData {
-    /// The coefficients, row by row, already multiplied by 2^Fq (Table E.2).
-    pub cells: Vec<i64>,
-    /// The largest truncation position over all precincts that hold one of the band's coefficients.
-    pub largest_t: u32,
+struct BandState {
+    largest_t: u32,
     /// The bitplane counts of the latest line in each column of precincts, side by side.
     counts: Vec<u8>,
     /// The truncation position of the latest line in each column of precincts.
     line_t: Vec<u32>,
 }
 
-/// Reads all slices and the end marker, and gives each existing band's coefficients.
-pub fn codestream(s: &[u8], header: &Header, layout: &Layout) -> Result<Vec<BandData>, Refusal> {
+/// Reads all slices and the end marker. Gives the components' coefficients, multiplied by 2^Fq (Table E.2), and each
+/// existing band's largest truncation position over all precincts that hold one of its coefficients.
+pub fn codestream(s: &[u8], header: &Header, layout: &Layout) -> Result<(Vec<Plane>, Vec<u32>), Refusal> {
     let mut reader = Reader::new(s, header, layout);
     let mut at = header.first_slice;
     let (mut t, mut first_row) = (0, 0);
@@ -36,7 +35,8 @@ pub fn codestream(s: &[u8], header: &Header, layout: &Layout) -> Result<Vec<Band
         t += 1;
     }
     a::end_of_codestream(s, at)?;
-    Ok(reader.bands.into_iter().flatten().collect())
+    let largest_t = reader.bands.iter().flatten().map(|band| band.largest_t).collect();
+    Ok((reader.planes, largest_t))
 }
 
 /// How a precinct codes one band.
@@ -66,7 +66,8 @@ struct Span {
     band: usize,
     column: usize,
     coding: Coding,
-    /// The line's coefficients in the band, and its code groups in a line of bitplane counts.
+    component: usize,
+    /// The line's cells in the component, and its code groups in the band's line of bitplane counts.
     cells: Range<usize>,
     groups: Range<usize>,
 }
@@ -75,7 +76,8 @@ struct Reader<'a> {
     s: &'a [u8],
     header: &'a Header,
     layout: &'a Layout,
-    bands: Vec<Option<BandData>>,
+    planes: Vec<Plane>,
+    bands: Vec<Option<BandState>>,
     /// By band index; fresh for each precinct.
     codings: Vec<Coding>,
     /// The signed quantization indices of a packet, by code group.
@@ -84,17 +86,20 @@ struct Reader<'a> {
 
 impl<'a> Reader<'a> {
     fn new(s: &'a [u8], header: &'a Header, layout: &'a Layout) -> Reader<'a> {
-        let data = layout.bands.iter().map(|band| {
-            band.as_ref().map(|band| BandData {
-                cells: vec![0; band.width * band.height],
-                largest_t: 0,
-                counts: vec![0; ceil_div(band.width, NG)],
-                line_t: vec![0; layout.columns],
-            })
-        });
-        let bands: Vec<_> = data.collect();
-        let codings = vec![Coding::default(); bands.len()];
-        Reader { s, header, layout, bands, codings, indices: Vec::new() }
+        let state = |band: &Band| BandState {
+            largest_t: 0,
+            counts: vec![0; ceil_div(band.width, NG)],
+            line_t: vec![0; layout.columns],
+        };
+        Reader {
+            s,
+            header,
+            layout,
+            planes: e::planes(layout),
+            bands: layout.bands.iter().map(|band| band.as_ref().map(state)).collect(),
+            codings: vec![Coding::default(); layout.bands.len()],
+            indices: Vec::new(),
+        }
     }
 
     /// Reads a precinct and gives the offset behind it.
@@ -185,10 +190,11 @@ impl<'a> Reader<'a> {
         let band = self.layout.bands[line.band].as_ref().expect("packets hold existing bands");
         let x = self.layout.first_x(band, column);
         let width = self.layout.width(band, column);
-        let start = line.y * band.width + x;
+        let start = self.planes[band.component].cell(band, x, line.y);
         // The first coefficient of a column stands at a multiple of 8 (B.5), so code groups do not straddle columns.
         let groups = x / NG..x / NG + ceil_div(width, NG);
-        Span { band: line.band, column, coding: self.codings[line.band], cells: start..start + width, groups }
+        let cells = start..start + width;
+        Span { band: line.band, column, coding: self.codings[line.band], component: band.component, cells, groups }
     }
 
     fn counts(&self, span: &Span) -> &[u8] {
@@ -202,10 +208,10 @@ impl<'a> Reader<'a> {
         let mut first_flag = 0;
         let limit = 2 << self.header.br;
         for span in spans {
-            let data = self.bands[span.band].as_mut().expect("spans are of existing bands");
-            let t_top = std::mem::replace(&mut data.line_t[span.column], span.coding.t);
-            data.largest_t = data.largest_t.max(span.coding.t);
-            let line = &mut data.counts[span.groups.clone()];
+            let band = self.bands[span.band].as_mut().expect("spans are of existing bands");
+            let t_top = std::mem::replace(&mut band.line_t[span.column], span.coding.t);
+            band.largest_t = band.largest_t.max(span.coding.t);
+            let line = &mut band.counts[span.groups.clone()];
             if raw {
                 unpack_raw(&mut bits, self.header.br, line)?;
                 continue;
@@ -225,20 +231,16 @@ impl<'a> Reader<'a> {
     fn unpack_data(&mut self, spans: &[Span], data: &[u8]) -> Result<(), Row> {
         let mut indices = std::mem::take(&mut self.indices);
         indices.clear();
-        let mut nibbles = Nibbles { bytes: data, at: 0 };
+        let mut bits = Bits::new(data);
         for span in spans {
             for &m in self.counts(span) {
-                let planes = usize::from(m).saturating_sub(span.coding.t as usize);
+                let planes = u32::from(m).saturating_sub(span.coding.t);
                 if planes == 0 {
                     indices.push([0; NG]);
                     continue;
                 }
-                let joint_signs = usize::from(!self.header.fs);
-                if nibbles.left() < joint_signs + planes {
-                    return Err(Row::Length);
-                }
-                let signs = if self.header.fs { 0 } else { nibbles.next() };
-                indices.push(signed(nibbles.magnitudes(planes), signs));
+                let signs = if self.header.fs { 0 } else { bits.take(NG as u32)? };
+                indices.push(signed(bits.magnitudes(planes)?, signs));
             }
         }
         self.indices = indices;
@@ -249,11 +251,11 @@ impl<'a> Reader<'a> {
     fn dequantise(&mut self, spans: &[Span]) {
         let mut rest: &[[i32; NG]] = &self.indices;
         for span in spans {
-            let data = self.bands[span.band].as_mut().expect("spans are of existing bands");
+            let band = self.bands[span.band].as_ref().expect("spans are of existing bands");
             let (indices, others) = rest.split_at(span.groups.len());
             rest = others;
-            let counts = &data.counts[span.groups.clone()];
-            let cells = &mut data.cells[span.cells.clone()];
+            let counts = &band.counts[span.groups.clone()];
+            let cells = &mut self.planes[span.component].cells[span.cells.clone()];
             d::dequantise(self.header.qpih, span.coding.t, self.header.fq, counts, indices, cells);
         }
     }
@@ -400,9 +402,8 @@ fn unpack_signs(indices: &mut [[i32; NG]], signs: &[u8]) -> Result<(), Row> {
 /// Gives the members of a code group their signs, the first from the highest of four bits.
 fn signed(mut group: [i32; NG], signs: u8) -> [i32; NG] {
     for (k, index) in group.iter_mut().enumerate() {
-        if signs >> (NG - 1 - k) & 1 == 1 {
-            *index = -*index;
-        }
+        let sign = i32::from(signs >> (NG - 1 - k) & 1);
+        *index = (*index ^ -sign) + sign;
     }
     group
 }
@@ -421,9 +422,9 @@ impl<'a> Bits<'a> {
     /// The next bits from the highest down, at least 57 of them; behind the end stand zeros.
     fn window(&self) -> u64 {
         let rest = &self.bytes[self.at / 8..];
-        let word = match rest.get(..8) {
-            Some(bytes) => big_endian(bytes),
-            None => big_endian(rest).checked_shl(64 - 8 * rest.len() as u32).unwrap_or(0),
+        let word = match rest.get(..8).and_then(|bytes| bytes.try_into().ok()) {
+            Some(bytes) => u64::from_be_bytes(bytes),
+            None => rest.iter().rev().fold(0, |word, &byte| word >> 8 | u64::from(byte) << 56),
         };
         word << (self.at % 8)
     }
@@ -436,6 +437,27 @@ impl<'a> Bits<'a> {
         let bits = self.window() >> 1 >> (63 - n);
         self.at += n as usize;
         Ok(bits as u8)
+    }
+
+    /// The index magnitudes of a code group, from the highest bitplane down.
+    fn magnitudes(&mut self, planes: u32) -> Result<[i32; NG], Row> {
+        // A window that starts at a nibble has at least 15 of them.
+        const AT_ONCE: u32 = 15;
+        if self.at + NG * planes as usize > 8 * self.bytes.len() {
+            return Err(Row::Length);
+        }
+        let mut group = [0; NG];
+        let mut left = planes;
+        while left > 0 {
+            let some = left.min(AT_ONCE);
+            let lanes = lanes(self.window(), some);
+            for (k, index) in group.iter_mut().enumerate() {
+                *index = *index << some | (lanes >> (16 * k) & 0xffff) as i32;
+            }
+            self.at += NG * some as usize;
+            left -= some;
+        }
+        Ok(group)
     }
 
     /// Reads ones up to and with the zero behind them, and counts them. Too many are refused before the end is.
@@ -473,46 +495,37 @@ impl<'a> Bits<'a> {
     }
 }
 
-/// Reads four bits at a time.
-struct Nibbles<'a> {
-    bytes: &'a [u8],
-    at: usize,
-}
+/// The two bits that two bitplanes hold of each member of a code group, by the byte that holds the bitplanes:
+/// each member's bits at the foot of its own 16 bits, the first member lowest.
+const PAIRS: [u64; 256] = pairs();
 
-/// The four bits of a nibble, each at the foot of its own 32 bits.
-const LANES: [u128; 16] = lanes();
-
-const fn lanes() -> [u128; 16] {
-    let mut table = [0; 16];
-    let mut n = 0;
-    while n < 16 {
-        let bits = n as u128;
-        table[n] = (bits >> 3 & 1) | (bits >> 2 & 1) << 32 | (bits >> 1 & 1) << 64 | (bits & 1) << 96;
-        n += 1;
+const fn pairs() -> [u64; 256] {
+    let mut table = [0; 256];
+    let mut byte = 0;
+    while byte < 256 {
+        let mut k = 0;
+        while k < NG {
+            let (upper, lower) = (byte >> (7 - k) & 1, byte >> (3 - k) & 1);
+            table[byte] |= ((2 * upper + lower) as u64) << (16 * k);
+            k += 1;
+        }
+        byte += 1;
     }
     table
 }
 
-impl Nibbles<'_> {
-    fn left(&self) -> usize {
-        2 * self.bytes.len() - self.at
+/// The index magnitudes of a code group from the `planes` uppermost nibbles of `bits`, at most 15, as `PAIRS` has them.
+fn lanes(mut bits: u64, planes: u32) -> u64 {
+    let mut lanes = 0;
+    if planes % 2 == 1 {
+        lanes = PAIRS[(bits >> 60) as usize];
+        bits <<= 4;
     }
-
-    fn next(&mut self) -> u8 {
-        let byte = self.bytes[self.at / 2];
-        self.at += 1;
-        if self.at % 2 == 1 {
-            byte >> 4
-        } else {
-            byte & 15
-        }
+    for _ in 0..planes / 2 {
+        lanes = lanes << 2 | PAIRS[(bits >> 56) as usize];
+        bits <<= 8;
     }
-
-    /// The index magnitudes of a code group, from the highest bitplane down.
-    fn magnitudes(&mut self, planes: usize) -> [i32; NG] {
-        let lanes = (0..planes).fold(0, |lanes, _| lanes << 1 | LANES[usize::from(self.next())]);
-        [lanes as i32, (lanes >> 32) as i32, (lanes >> 64) as i32, (lanes >> 96) as i32]
-    }
+    lanes
 }
 
 #[cfg(test)]

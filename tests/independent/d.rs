@@ -5,33 +5,34 @@ use super::b::NG;
 /// Turns the indices of a line into coefficients, multiplied by 2^Fq as Table E.2 wants them.
 /// `counts` and `indices` go by code group; padding behind the last coefficient is dropped.
 pub fn dequantise(qpih: u8, t: u32, fq: u32, counts: &[u8], indices: &[[i32; NG]], cells: &mut [i64]) {
-    let groups = cells.chunks_mut(NG).zip(counts).zip(indices);
-    for ((cells, &m), group) in groups {
+    match qpih {
+        0 => line(counts, indices, cells, |index, _| deadzone(index, t) << fq),
+        _ => line(counts, indices, cells, |index, m| uniform(index, m, t) << fq),
+    }
+}
+
+fn line(counts: &[u8], indices: &[[i32; NG]], cells: &mut [i64], inverse: impl Fn(i64, u32) -> i64) {
+    for (cells, (&m, group)) in cells.chunks_mut(NG).zip(counts.iter().zip(indices)) {
         for (cell, &index) in cells.iter_mut().zip(group) {
-            let size = i64::from(index).abs();
-            let size = if qpih == 0 { deadzone(size, t) } else { uniform(size, u32::from(m), t) };
-            *cell = (i64::from(index).signum() * size) << fq;
+            *cell = inverse(i64::from(index), u32::from(m));
         }
     }
 }
 
-/// The size of a coefficient from its index magnitude (D.2, Table D.1). An index is 0 where M is not above T.
-fn deadzone(v: i64, t: u32) -> i64 {
-    match v {
-        0 => 0,
-        _ => (v << t) + ((1 << t) >> 1),
-    }
+/// A coefficient from its signed index (D.2, Table D.1). The index is 0 where M is not above T.
+fn deadzone(index: i64, t: u32) -> i64 {
+    (index << t) + index.signum() * ((1 << t) >> 1)
 }
 
-/// The size of a coefficient from its index magnitude (D.3, Table D.2).
-fn uniform(v: i64, m: u32, t: u32) -> i64 {
-    let mut phi = v << t;
+/// A coefficient from its signed index (D.3, Table D.2). The index is 0 where M is not above T.
+fn uniform(index: i64, m: u32, t: u32) -> i64 {
+    let mut phi = index.abs() << t;
     let mut rho = 0;
     while phi > 0 {
         rho += phi;
         phi >>= m - t + 1;
     }
-    rho
+    index.signum() * rho
 }
 
 #[cfg(test)]

@@ -2,7 +2,6 @@
 
 use super::a::Header;
 use super::b::Layout;
-use super::e;
 
 /// The distance of each component, from the largest truncation position of each existing band.
 pub fn components(header: &Header, layout: &Layout, largest_t: &[u32]) -> Vec<u64> {
@@ -11,8 +10,7 @@ pub fn components(header: &Header, layout: &Layout, largest_t: &[u32]) -> Vec<u6
         inputs[band.component].push(band_number(t, header.fq));
     }
     let planes = inputs.into_iter().zip(&layout.planes);
-    let mut numbers: Vec<u64> =
-        planes.map(|(bands, plane)| e::inverse(bands, plane.nlx, plane.nly, &join, &join)).collect();
+    let mut numbers: Vec<u64> = planes.map(|(bands, plane)| joined(&bands, plane.nlx, plane.nly)).collect();
     if header.cpih == 1 {
         colours(&mut numbers);
     }
@@ -26,8 +24,15 @@ fn band_number(largest_t: u32, fq: u32) -> u64 {
 }
 
 /// Step 2.
-fn join(low: &u64, high: &u64) -> u64 {
+fn join(low: u64, high: u64) -> u64 {
     low + high + (high + 1) / 2
+}
+
+/// Step 2 over all of a component's bands, in the order of Table E.1, which is that of filter types.
+fn joined(bands: &[u64], nlx: u32, nly: u32) -> u64 {
+    let (across, both) = bands[1..].split_at((nlx - nly) as usize);
+    let low = across.iter().fold(bands[0], |low, &hl| join(low, hl));
+    both.chunks(3).take(nly as usize).fold(low, |low, level| join(join(low, level[0]), join(level[1], level[2])))
 }
 
 /// Step 3. Table F.2 adds component 2 to red and component 1 to blue.
@@ -53,7 +58,7 @@ mod tests {
     fn checked_figures() {
         assert_eq!(band_number(3, 0), 7);
         assert_eq!(band_number(3, 8), 1_792);
-        assert_eq!(join(&0, &7), 11);
+        assert_eq!(join(0, 7), 11);
         assert_eq!(scaled(11, 0), 11);
         assert_eq!(scaled(11, 12), 1);
     }

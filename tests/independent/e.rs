@@ -1,59 +1,95 @@
-//! Annex E: the inverse wavelet transformation.
+//! Annex E: the inverse wavelet transformation, in place.
+//!
+//! A component has one cell for each coefficient. The lines of its bands stand in the rows where the vertical filters
+//! need them: line y of a band of depth d is row y × 2^d, or y × 2^d + 2^(d−1) where the band is a vertical high-pass.
+//! Within a row the low part stands before the high part, at every horizontal level. So each horizontal step interleaves
+//! the start of a row, and no vertical step moves anything.
 
-use super::b::Layout;
+use super::b::{ceil_div, Band, Layout};
 
-/// A rectangle of values, row by row: a temporary band of Annex E, or a component.
+/// A component: coefficients at first, samples at last.
 pub struct Plane {
     pub width: usize,
     pub height: usize,
     pub cells: Vec<i64>,
 }
 
+/// Components without any coefficients yet.
+pub fn planes(layout: &Layout) -> Vec<Plane> {
+    let plane = |width, height| Plane { width, height, cells: vec![0; width * height] };
+    layout.planes.iter().map(|size| plane(size.width, size.height)).collect()
+}
+
 impl Plane {
-    fn row(&self, y: usize) -> &[i64] {
-        &self.cells[y * self.width..(y + 1) * self.width]
+    /// The cell of a band's coefficient at `x` and `y`; those to the right of it in the same line follow.
+    pub fn cell(&self, band: &Band, x: usize, y: usize) -> usize {
+        let row = if band.high_y { (2 * y + 1) << (band.dy - 1) } else { y << band.dy };
+        let low_part = if band.high_x { ceil_div(self.width, 1 << band.dx) } else { 0 };
+        row * self.width + low_part + x
+    }
+
+    /// Transforms the component (Table E.1).
+    pub fn inverse(&mut self, nlx: u32, nly: u32) {
+        let mut scratch = vec![0; self.width];
+        for y in (0..self.height).step_by(1 << nly) {
+            for dx in (nly + 1..=nlx).rev() {
+                self.join_across(y, dx, &mut scratch);
+            }
+        }
+        for d in (1..=nly).rev() {
+            self.join_level(d, &mut scratch);
+        }
+    }
+
+    /// One level in both directions. Each row is filtered downwards as soon as the rows that it needs are there:
+    /// an even one when the next has been joined across, an odd one after the even one below it.
+    fn join_level(&mut self, d: u32, scratch: &mut [i64]) {
+        let step = 1 << (d - 1);
+        let width = ceil_div(self.width, step);
+        let rows = ceil_div(self.height, step);
+        for k in 0..rows {
+            self.join_across(k * step, d, scratch);
+            if k % 2 == 1 {
+                self.filter_down((k - 1) * step, step, width, even_sample);
+            }
+            if k % 2 == 1 && k > 2 {
+                self.filter_down((k - 2) * step, step, width, odd_sample);
+            }
+        }
+        if rows % 2 == 1 {
+            self.filter_down((rows - 1) * step, step, width, even_sample);
+            self.filter_down((rows - 2) * step, step, width, odd_sample);
+        } else {
+            self.filter_down((rows - 1) * step, step, width, odd_sample);
+        }
+    }
+
+    /// `hor_transform` (E.4, Table E.3) on one row, from depth `dx` to `dx − 1`.
+    fn join_across(&mut self, y: usize, dx: u32, scratch: &mut [i64]) {
+        let width = ceil_div(self.width, 1 << (dx - 1));
+        let row = &mut self.cells[y * self.width..][..width];
+        let (low, high) = row.split_at(ceil_div(width, 2));
+        join_line(low, high, &mut scratch[..width]);
+        row.copy_from_slice(&scratch[..width]);
+    }
+
+    /// A step of `ver_transform` (E.5, Table E.4) on one row, with the rows `step` above and below it.
+    /// By mirroring (E.6), a border row has its only neighbour on both sides.
+    fn filter_down(&mut self, y: usize, step: usize, width: usize, filter: impl Fn(i64, i64, i64) -> i64) {
+        let (before, rest) = self.cells.split_at_mut(y * self.width);
+        let (row, behind) = rest.split_at_mut(self.width);
+        let above = y.checked_sub(step).map(|y| &before[y * self.width..][..width]);
+        let below = behind.get((step - 1) * self.width..).and_then(|rows| rows.get(..width));
+        if let (Some(above), Some(below)) = (above.or(below), below.or(above)) {
+            for (cell, (&above, &below)) in row[..width].iter_mut().zip(above.iter().zip(below)) {
+                *cell = filter(*cell, above, below);
+            }
+        }
     }
 }
 
-/// Transforms each component, from the coefficients of each existing band.
-pub fn components(layout: &Layout, cells: impl Iterator<Item = Vec<i64>>) -> Vec<Plane> {
-    let mut inputs: Vec<Vec<Plane>> = layout.planes.iter().map(|_| Vec::new()).collect();
-    for (band, cells) in layout.bands.iter().flatten().zip(cells) {
-        inputs[band.component].push(Plane { width: band.width, height: band.height, cells });
-    }
-    let planes = inputs.into_iter().zip(&layout.planes);
-    planes.map(|(bands, plane)| inverse(bands, plane.nlx, plane.nly, &join_across, &join_down)).collect()
-}
-
-/// The steps of Table E.1 for one component, over any values: `across` and `down` join a low part with a high part.
-/// The order of filter types is the order in which the bands are joined.
-pub fn inverse<T>(bands: Vec<T>, nlx: u32, nly: u32, across: &dyn Fn(&T, &T) -> T, down: &dyn Fn(&T, &T) -> T) -> T {
-    let mut bands = bands.into_iter();
-    let mut next = || bands.next().expect("a component has a band for each step");
-    let mut low = next();
-    for _ in nly..nlx {
-        low = across(&low, &next());
-    }
-    for _ in 0..nly {
-        low = across(&low, &next());
-        let high = across(&next(), &next());
-        low = down(&low, &high);
-    }
-    low
-}
-
-/// `hor_transform` (E.4, Table E.3).
-fn join_across(low: &Plane, high: &Plane) -> Plane {
-    let width = low.width + high.width;
-    let mut cells = vec![0; width * low.height];
-    for (y, out) in cells.chunks_mut(width).enumerate() {
-        join_line(low.row(y), high.row(y), out);
-    }
-    Plane { width, height: low.height, cells }
-}
-
-/// Joins one line (E.6 and E.7, Tables E.5 and E.6). By mirroring, a border repeats the high coefficient that is next to it,
-/// and a last odd sample has the even sample before it also behind it.
+/// Joins the low and high parts of a line (E.6 and E.7, Tables E.5 and E.6). By mirroring, a border repeats the high
+/// coefficient that is next to it, and a last odd sample has the even sample before it also behind it.
 fn join_line(low: &[i64], high: &[i64], out: &mut [i64]) {
     let mut even = even_sample(low[0], high[0], high[0]);
     for ((pair, highs), &low) in out.chunks_exact_mut(2).zip(high.windows(2)).zip(&low[1..]) {
@@ -72,42 +108,6 @@ fn join_line(low: &[i64], high: &[i64], out: &mut [i64]) {
     }
 }
 
-/// `ver_transform` (E.5, Table E.4), whole rows at a time.
-fn join_down(low: &Plane, high: &Plane) -> Plane {
-    let width = low.width;
-    let height = low.height + high.height;
-    let mut cells = vec![0; width * height];
-    let last = high.height - 1;
-    for y in (0..height).step_by(2) {
-        let (above, rest) = cells.split_at_mut(y * width);
-        let even = &mut rest[..width];
-        let (before, behind) = (high.row((y / 2).saturating_sub(1)), high.row((y / 2).min(last)));
-        even_row(low.row(y / 2), before, behind, even);
-        if y > 0 {
-            let (above, odd) = above.split_at_mut((y - 1) * width);
-            odd_row(before, &above[(y - 2) * width..], even, odd);
-        }
-    }
-    if height % 2 == 0 {
-        let (above, odd) = cells.split_at_mut((height - 1) * width);
-        let even = &above[(height - 2) * width..];
-        odd_row(high.row(last), even, even, odd);
-    }
-    Plane { width, height, cells }
-}
-
-fn even_row(low: &[i64], before: &[i64], behind: &[i64], out: &mut [i64]) {
-    for (out, ((&low, &before), &behind)) in out.iter_mut().zip(low.iter().zip(before).zip(behind)) {
-        *out = even_sample(low, before, behind);
-    }
-}
-
-fn odd_row(high: &[i64], before: &[i64], behind: &[i64], out: &mut [i64]) {
-    for (out, ((&high, &before), &behind)) in out.iter_mut().zip(high.iter().zip(before).zip(behind)) {
-        *out = odd_sample(high, before, behind);
-    }
-}
-
 fn even_sample(low: i64, before: i64, behind: i64) -> i64 {
     low - ((before + behind + 2) >> 2)
 }
@@ -120,11 +120,15 @@ fn odd_sample(high: i64, before: i64, behind: i64) -> i64 {
 mod tests {
     use super::*;
 
+    /// Joins low and high coefficients across, and also down in a component of one column over another.
     fn both_ways(low: &[i64], high: &[i64]) -> Vec<i64> {
         let mut line = vec![0; low.len() + high.len()];
         join_line(low, high, &mut line);
-        let column = |cells: &[i64]| Plane { width: 1, height: cells.len(), cells: cells.to_vec() };
-        assert_eq!(join_down(&column(low), &column(high)).cells, line);
+        // A high part of 0 across leaves the low part as it is.
+        let rows = (0..line.len()).flat_map(|y| [if y % 2 == 0 { low[y / 2] } else { high[y / 2] }, 0]);
+        let mut plane = Plane { width: 2, height: line.len(), cells: rows.collect() };
+        plane.inverse(1, 1);
+        assert!(plane.cells.chunks(2).map(|row| row[0]).eq(line.iter().copied()));
         line
     }
 

@@ -62,10 +62,9 @@ pub fn read(s: &[u8], room: usize) -> Result<Page, Refusal> {
     let header = a::header(s)?;
     let layout = b::Layout::new(&header);
     require(layout.samples() <= room, Row::Buffer, header.first_slice)?;
-    let bands = c::codestream(s, &header, &layout)?;
-    let largest_t: Vec<u32> = bands.iter().map(|band| band.largest_t).collect();
+    let (planes, largest_t) = c::codestream(s, &header, &layout)?;
     let distances = distance::components(&header, &layout, &largest_t);
-    let samples = reconstruct(&header, &layout, bands.into_iter().map(|band| band.cells));
+    let samples = reconstruct(&header, &layout, planes);
     let components = header.cdt.iter().zip(&layout.planes).zip(distances.into_iter().zip(samples));
     let components = components.map(|((entry, plane), (distance, samples))| Component {
         width: plane.width,
@@ -77,9 +76,11 @@ pub fn read(s: &[u8], room: usize) -> Result<Page, Refusal> {
     Ok(Page { components: components.collect(), caption: header.caption.is_some() })
 }
 
-/// The samples of each component from the coefficients of each existing band, multiplied by 2^Fq (Annexes E to G).
-pub fn reconstruct(header: &a::Header, layout: &b::Layout, cells: impl Iterator<Item = Vec<i64>>) -> Vec<Vec<u16>> {
-    let mut planes = e::components(layout, cells);
+/// The samples of each component from its coefficients, multiplied by 2^Fq (Annexes E to G).
+pub fn reconstruct(header: &a::Header, layout: &b::Layout, mut planes: Vec<e::Plane>) -> Vec<Vec<u16>> {
+    for (plane, size) in planes.iter_mut().zip(&layout.planes) {
+        plane.inverse(size.nlx, size.nly);
+    }
     if header.cpih == 1 {
         f::inverse_rct(&mut planes);
     }

@@ -122,8 +122,15 @@ fn coefficients(rng: &mut Rng, header: &Header, layout: &Layout) -> Vec<Vec<i64>
 }
 
 fn samples(header: &Header, layout: &Layout, bands: &[Vec<i64>]) -> Vec<Vec<u16>> {
-    let scaled = bands.iter().map(|band| band.iter().map(|c| c << header.fq).collect());
-    independent::reconstruct(header, layout, scaled)
+    let mut planes = independent::e::planes(layout);
+    for (band, cells) in layout.bands.iter().flatten().zip(bands) {
+        let plane = &mut planes[band.component];
+        for (y, line) in cells.chunks(band.width).enumerate() {
+            let start = plane.cell(band, 0, y);
+            plane.cells[start..start + band.width].iter_mut().zip(line).for_each(|(cell, c)| *cell = c << header.fq);
+        }
+    }
+    independent::reconstruct(header, layout, planes)
 }
 
 #[cfg(test)]
