@@ -2,12 +2,13 @@
 
 use super::a::{self, Header};
 use super::b::{ceil_div, Band, Layout, Line, NG, SS};
+use super::bits::Bits;
 use super::d;
 use super::e::{self, Plane};
 use super::{require, Refusal, Row};
 use std::ops::Range;
 
-/// What is kept of an existing band while the stream is read.
+/// What is kept of a band while the stream is read; nothing for one that does not exist.
 struct BandState {
     largest_t: u32,
     /// The bitplane counts of the latest line in each column of precincts, side by side.
@@ -35,8 +36,16 @@ pub fn codestream(s: &[u8], header: &Header, layout: &Layout) -> Result<(Vec<Pla
         t += 1;
     }
     a::end_of_codestream(s, at)?;
-    let largest_t = reader.bands.iter().flatten().map(|band| band.largest_t).collect();
+    let existing = reader.bands.iter().zip(&layout.bands).filter(|(_, band)| band.is_some());
+    let largest_t = existing.map(|(state, _)| state.largest_t).collect();
     Ok((reader.planes, largest_t))
+}
+
+/// The precinct that is being read: where it starts and ends, and its column.
+struct Precinct {
+    at: usize,
+    end: usize,
+    column: usize,
 }
 
 /// How a precinct codes one band.
@@ -77,8 +86,8 @@ struct Reader<'a> {
     header: &'a Header,
     layout: &'a Layout,
     planes: Vec<Plane>,
-    bands: Vec<Option<BandState>>,
-    /// By band index; fresh for each precinct.
+    /// By band index, as are the codings, which are fresh for each precinct.
+    bands: Vec<BandState>,
     codings: Vec<Coding>,
     /// The signed quantization indices of a packet, by code group.
     indices: Vec<[i32; NG]>,
@@ -86,9 +95,9 @@ struct Reader<'a> {
 
 impl<'a> Reader<'a> {
     fn new(s: &'a [u8], header: &'a Header, layout: &'a Layout) -> Reader<'a> {
-        let state = |band: &Band| BandState {
+        let state = |band: &Option<Band>| BandState {
             largest_t: 0,
-            counts: vec![0; ceil_div(band.width, NG)],
+            counts: vec![0; band.map_or(0, |band| ceil_div(band.width, NG))],
             line_t: vec![0; layout.columns],
         };
         Reader {
@@ -96,7 +105,7 @@ impl<'a> Reader<'a> {
             header,
             layout,
             planes: e::planes(layout),
-            bands: layout.bands.iter().map(|band| band.as_ref().map(state)).collect(),
+            bands: layout.bands.iter().map(state).collect(),
             codings: vec![Coding::default(); layout.bands.len()],
             indices: Vec::new(),
         }
@@ -104,9 +113,11 @@ impl<'a> Reader<'a> {
 
     /// Reads a precinct and gives the offset behind it.
     fn precinct(&mut self, at: usize, top: bool, column: usize, packets: &[Vec<Line>]) -> Result<usize, Refusal> {
-        let (mut next, end) = self.precinct_header(at, top)?;
+        let (body, end) = self.precinct_header(at, top)?;
+        let precinct = Precinct { at, end, column };
+        let mut next = body;
         for lines in packets {
-            next = self.packet(lines, column, at, next, end)?;
+            next = self.packet(&precinct, next, lines)?;
         }
         require(next == end, Row::Length, at)?;
         Ok(end)
@@ -136,17 +147,11 @@ impl<'a> Reader<'a> {
         Ok((body, end))
     }
 
-    /// Reads a packet of a precinct that stands from `precinct` to `end`, and gives the offset behind it.
-    fn packet(
-        &mut self,
-        lines: &[Line],
-        column: usize,
-        precinct: usize,
-        at: usize,
-        end: usize,
-    ) -> Result<usize, Refusal> {
-        let head = self.packet_header(lines, precinct, at, end)?;
-        let spans: Vec<Span> = lines.iter().map(|line| self.span(line, column)).collect();
+    /// Reads a packet (C.4, Table C.5) and gives the offset behind it.
+    fn packet(&mut self, precinct: &Precinct, at: usize, lines: &[Line]) -> Result<usize, Refusal> {
+        let head = self.packet_header(precinct, at, lines)?;
+        let end = precinct.end;
+        let spans: Vec<Span> = lines.iter().map(|line| self.span(line, precinct.column)).collect();
         let flags_at = at + head.size;
         let flags = subpacket(self.s, flags_at, significance_length(&spans, head.raw), end)?;
         let counts_at = flags_at + flags.len();
@@ -165,16 +170,10 @@ impl<'a> Reader<'a> {
     }
 
     /// Reads and judges a packet header (C.3).
-    fn packet_header(
-        &mut self,
-        lines: &[Line],
-        precinct: usize,
-        at: usize,
-        end: usize,
-    ) -> Result<PacketHeader, Refusal> {
+    fn packet_header(&mut self, precinct: &Precinct, at: usize, lines: &[Line]) -> Result<PacketHeader, Refusal> {
         let long = is_long(self.header);
         let size = if long { 7 } else { 5 };
-        require(at + size <= end, Row::Length, precinct)?;
+        require(at + size <= precinct.end, Row::Length, precinct.at)?;
         let head = packet_header(&self.s[at..at + size], long);
         if !self.header.rl {
             for line in lines {
@@ -197,10 +196,6 @@ impl<'a> Reader<'a> {
         Span { band: line.band, column, coding: self.codings[line.band], component: band.component, cells, groups }
     }
 
-    fn counts(&self, span: &Span) -> &[u8] {
-        &self.bands[span.band].as_ref().expect("spans are of existing bands").counts[span.groups.clone()]
-    }
-
     /// The bitplane count subpacket (C.5.3.5, Table C.8), with the significance flags (C.5.2, Table C.6).
     /// A line of counts replaces the line above it in the same band.
     fn unpack_counts(&mut self, spans: &[Span], raw: bool, flags: &[u8], counts: &[u8]) -> Result<(), Row> {
@@ -208,7 +203,7 @@ impl<'a> Reader<'a> {
         let mut first_flag = 0;
         let limit = 2 << self.header.br;
         for span in spans {
-            let band = self.bands[span.band].as_mut().expect("spans are of existing bands");
+            let band = &mut self.bands[span.band];
             let t_top = std::mem::replace(&mut band.line_t[span.column], span.coding.t);
             band.largest_t = band.largest_t.max(span.coding.t);
             let line = &mut band.counts[span.groups.clone()];
@@ -227,34 +222,31 @@ impl<'a> Reader<'a> {
         Ok(())
     }
 
-    /// The data subpacket (C.5.4, Table C.9). All its pieces are four bits long: a sign, or a bitplane, of a code group.
+    /// The data subpacket (C.5.4, Table C.9). Signs, if they are here, stand before a code group's bitplanes like one more.
     fn unpack_data(&mut self, spans: &[Span], data: &[u8]) -> Result<(), Row> {
-        let mut indices = std::mem::take(&mut self.indices);
-        indices.clear();
+        self.indices.clear();
         let mut bits = Bits::new(data);
         for span in spans {
-            for &m in self.counts(span) {
+            for &m in &self.bands[span.band].counts[span.groups.clone()] {
                 let planes = u32::from(m).saturating_sub(span.coding.t);
                 if planes == 0 {
-                    indices.push([0; NG]);
+                    self.indices.push([0; NG]);
                     continue;
                 }
-                let signs = if self.header.fs { 0 } else { bits.take(NG as u32)? };
-                indices.push(signed(bits.magnitudes(planes)?, signs));
+                let group = bits.group(planes + u32::from(!self.header.fs))?;
+                self.indices.push(group.map(|member| signed(member, planes)));
             }
         }
-        self.indices = indices;
         Ok(())
     }
 
-    /// Turns a packet's indices into coefficients (Annex D), which take their places in the bands.
+    /// Turns a packet's indices into coefficients (Annex D), which take their places in the components.
     fn dequantise(&mut self, spans: &[Span]) {
         let mut rest: &[[i32; NG]] = &self.indices;
         for span in spans {
-            let band = self.bands[span.band].as_ref().expect("spans are of existing bands");
             let (indices, others) = rest.split_at(span.groups.len());
             rest = others;
-            let counts = &band.counts[span.groups.clone()];
+            let counts = &self.bands[span.band].counts[span.groups.clone()];
             let cells = &mut self.planes[span.component].cells[span.cells.clone()];
             d::dequantise(self.header.qpih, span.coding.t, self.header.fq, counts, indices, cells);
         }
@@ -399,133 +391,10 @@ fn unpack_signs(indices: &mut [[i32; NG]], signs: &[u8]) -> Result<(), Row> {
     Ok(())
 }
 
-/// Gives the members of a code group their signs, the first from the highest of four bits.
-fn signed(mut group: [i32; NG], signs: u8) -> [i32; NG] {
-    for (k, index) in group.iter_mut().enumerate() {
-        let sign = i32::from(signs >> (NG - 1 - k) & 1);
-        *index = (*index ^ -sign) + sign;
-    }
-    group
-}
-
-/// Reads bits from the left of each byte.
-struct Bits<'a> {
-    bytes: &'a [u8],
-    at: usize,
-}
-
-impl<'a> Bits<'a> {
-    fn new(bytes: &'a [u8]) -> Bits<'a> {
-        Bits { bytes, at: 0 }
-    }
-
-    /// The next bits from the highest down, at least 57 of them; behind the end stand zeros.
-    fn window(&self) -> u64 {
-        let rest = &self.bytes[self.at / 8..];
-        let word = match rest.get(..8).and_then(|bytes| bytes.try_into().ok()) {
-            Some(bytes) => u64::from_be_bytes(bytes),
-            None => rest.iter().rev().fold(0, |word, &byte| word >> 8 | u64::from(byte) << 56),
-        };
-        word << (self.at % 8)
-    }
-
-    /// The next `n` bits, at most 8.
-    fn take(&mut self, n: u32) -> Result<u8, Row> {
-        if self.at + n as usize > 8 * self.bytes.len() {
-            return Err(Row::Length);
-        }
-        let bits = self.window() >> 1 >> (63 - n);
-        self.at += n as usize;
-        Ok(bits as u8)
-    }
-
-    /// The index magnitudes of a code group, from the highest bitplane down.
-    fn magnitudes(&mut self, planes: u32) -> Result<[i32; NG], Row> {
-        // A window that starts at a nibble has at least 15 of them.
-        const AT_ONCE: u32 = 15;
-        if self.at + NG * planes as usize > 8 * self.bytes.len() {
-            return Err(Row::Length);
-        }
-        let mut group = [0; NG];
-        let mut left = planes;
-        while left > 0 {
-            let some = left.min(AT_ONCE);
-            let lanes = lanes(self.window(), some);
-            for (k, index) in group.iter_mut().enumerate() {
-                *index = *index << some | (lanes >> (16 * k) & 0xffff) as i32;
-            }
-            self.at += NG * some as usize;
-            left -= some;
-        }
-        Ok(group)
-    }
-
-    /// Reads ones up to and with the zero behind them, and counts them. Too many are refused before the end is.
-    fn ones(&mut self, limit: u32) -> Result<u32, Row> {
-        const AT_ONCE: u32 = 56;
-        let mut ones = 0;
-        loop {
-            let run = self.window().leading_ones().min(AT_ONCE);
-            ones += run;
-            self.at += run as usize;
-            if ones >= limit {
-                return Err(Row::Count);
-            }
-            if self.at >= 8 * self.bytes.len() {
-                return Err(Row::Length);
-            }
-            if run < AT_ONCE {
-                self.at += 1;
-                return Ok(ones);
-            }
-        }
-    }
-
-    /// The variable length code (C.7.1, Table C.17), with θ as the threshold between its alphabets.
-    fn vlc(&mut self, theta: u32, limit: u32) -> Result<i32, Row> {
-        let n = self.ones(limit)? as i32;
-        let theta = theta as i32;
-        Ok(if n > 2 * theta {
-            n - theta
-        } else if n % 2 == 1 {
-            -(n + 1) / 2
-        } else {
-            n / 2
-        })
-    }
-}
-
-/// The two bits that two bitplanes hold of each member of a code group, by the byte that holds the bitplanes:
-/// each member's bits at the foot of its own 16 bits, the first member lowest.
-const PAIRS: [u64; 256] = pairs();
-
-const fn pairs() -> [u64; 256] {
-    let mut table = [0; 256];
-    let mut byte = 0;
-    while byte < 256 {
-        let mut k = 0;
-        while k < NG {
-            let (upper, lower) = (byte >> (7 - k) & 1, byte >> (3 - k) & 1);
-            table[byte] |= ((2 * upper + lower) as u64) << (16 * k);
-            k += 1;
-        }
-        byte += 1;
-    }
-    table
-}
-
-/// The index magnitudes of a code group from the `planes` uppermost nibbles of `bits`, at most 15, as `PAIRS` has them.
-fn lanes(mut bits: u64, planes: u32) -> u64 {
-    let mut lanes = 0;
-    if planes % 2 == 1 {
-        lanes = PAIRS[(bits >> 60) as usize];
-        bits <<= 4;
-    }
-    for _ in 0..planes / 2 {
-        lanes = lanes << 2 | PAIRS[(bits >> 56) as usize];
-        bits <<= 8;
-    }
-    lanes
+/// An index from its magnitude of `planes` bits with the sign bit above.
+fn signed(member: u32, planes: u32) -> i32 {
+    let (size, sign) = ((member & ((1 << planes) - 1)) as i32, (member >> planes) as i32);
+    (size ^ -sign) + sign
 }
 
 #[cfg(test)]
@@ -557,26 +426,5 @@ mod tests {
         assert_eq!(truncation(2, 0, weight, 4), 0);
         assert_eq!(truncation(31, 0, weight, 4), 15);
         assert_eq!(truncation(31, 0, weight, 5), 28);
-    }
-
-    /// Both alphabets of the code, against Table C.18.
-    #[test]
-    fn codes() {
-        let code = |ones: u32, theta| {
-            let bytes = (u64::MAX << 1 << (63 - ones)).to_be_bytes();
-            Bits::new(&bytes).vlc(theta, 64).unwrap()
-        };
-        let values: Vec<i32> = (0..8).map(|n| code(n, 2)).collect();
-        assert_eq!(values, [0, -1, 1, -2, 2, 3, 4, 5]);
-    }
-
-    #[test]
-    fn long_and_cut_codes() {
-        let ones = |bytes: &[u8], limit| Bits::new(bytes).ones(limit);
-        assert_eq!(ones(&[0xff; 4], 32), Err(Row::Count));
-        assert_eq!(ones(&[0xff; 3], 32), Err(Row::Length));
-        assert_eq!(ones(&[0xff, 0xff, 0xff, 0xfe], 32), Ok(31));
-        assert_eq!(ones(&[0xff; 9], 64), Err(Row::Count));
-        assert_eq!(ones(&[], 32), Err(Row::Length));
     }
 }

@@ -4,6 +4,7 @@
 
 pub mod a;
 pub mod b;
+mod bits;
 pub mod c;
 pub mod d;
 pub mod distance;
