@@ -1,9 +1,9 @@
 //! Runs two programs on made streams and compares every byte that they print. Stops at the first difference.
 //!
-//! Usage: `compare FIRST SECOND [sound N] [damaged N] [foreign N] [seed S] [large]`. FIRST and SECOND are command lines
-//! whose words are separated by spaces; each gets the stream on standard input. Sound streams are a third each of random
-//! syntax, pictures and coefficients; for the latter two SECOND's samples must also keep the distance that it prints.
-//! `stream KIND SEED` makes a stream again.
+//! Usage: `compare FIRST SECOND [sound N] [damaged N] [foreign N] [headers N] [seed S] [large]`. FIRST and SECOND are
+//! command lines whose words are separated by spaces; each gets the stream on standard input. Sound streams are a third
+//! each of random syntax, pictures and coefficients; a page program must accept them, and for the latter two its samples
+//! must keep the distance that it prints. `stream KIND SEED` makes a stream again.
 
 use std::env;
 use std::fs::{self, File};
@@ -22,6 +22,7 @@ struct Options {
     sound: usize,
     damaged: usize,
     foreign: usize,
+    headers: usize,
     seed: u64,
     limits: Limits,
 }
@@ -31,7 +32,7 @@ fn main() -> ExitCode {
     let options = match options(&words) {
         Some(options) => options,
         None => {
-            eprintln!("usage: compare FIRST SECOND [sound N] [damaged N] [foreign N] [seed S] [large]");
+            eprintln!("usage: compare FIRST SECOND [sound N] [damaged N] [foreign N] [headers N] [seed S] [large]");
             return ExitCode::from(2);
         }
     };
@@ -50,7 +51,8 @@ fn main() -> ExitCode {
 
 fn options(words: &[String]) -> Option<Options> {
     let (first, second) = (words.get(0)?.clone(), words.get(1)?.clone());
-    let mut options = Options { first, second, sound: 300, damaged: 300, foreign: 20, seed: 1, limits: SMALL };
+    let mut options =
+        Options { first, second, sound: 300, damaged: 300, foreign: 20, headers: 0, seed: 1, limits: SMALL };
     let mut rest = words[2..].iter();
     while let Some(word) = rest.next() {
         if word == "large" {
@@ -62,6 +64,7 @@ fn options(words: &[String]) -> Option<Options> {
             "sound" => options.sound = number,
             "damaged" => options.damaged = number,
             "foreign" => options.foreign = number,
+            "headers" => options.headers = number,
             "seed" => options.seed = number as u64,
             _ => return None,
         }
@@ -71,7 +74,7 @@ fn options(words: &[String]) -> Option<Options> {
 
 impl Options {
     fn streams(&self) -> usize {
-        self.sound + self.damaged + self.foreign
+        self.sound + self.damaged + self.foreign + self.headers
     }
 
     /// Stream `n` of the run.
@@ -80,8 +83,10 @@ impl Options {
             [Kind::Syntax, Kind::Picture, Kind::Coefficients][n % 3]
         } else if n < self.sound + self.damaged {
             Kind::Damaged
-        } else {
+        } else if n < self.sound + self.damaged + self.foreign {
             Kind::Foreign
+        } else {
+            Kind::Header
         };
         make(kind, self.seed.wrapping_add(n as u64), self.limits)
     }
@@ -150,11 +155,12 @@ fn judge(options: &Options, made: &Made, input: &Path, folder: &Path) -> io::Res
     let first = run(&options.first, input)?;
     let second = run(&options.second, input)?;
     let accepted = second.starts_with(b"answer 0 ");
+    let refused = second.starts_with(b"answer ") && !accepted;
     let fault = if first != second {
         difference(&first, &second)
-    } else if made.sound && !accepted {
+    } else if made.sound && refused {
         format!("a sound stream is refused, {}", String::from_utf8_lossy(&second).trim_end())
-    } else if made.exact.as_ref().map_or(false, |exact| !keeps_distance(&second, exact)) {
+    } else if accepted && made.exact.as_ref().map_or(false, |exact| !keeps_distance(&second, exact)) {
         String::from("a sample is further away than the distance printed")
     } else {
         return Ok(if accepted { Verdict::Accepted } else { Verdict::Refused });

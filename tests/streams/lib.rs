@@ -28,14 +28,17 @@ pub enum Kind {
     Damaged,
     /// Files of other formats.
     Foreign,
+    /// Streams that end with their first slice header, for a few chosen layouts.
+    Header,
 }
 
-pub const KINDS: [(&str, Kind); 5] = [
+pub const KINDS: [(&str, Kind); 6] = [
     ("syntax", Kind::Syntax),
     ("picture", Kind::Picture),
     ("coefficients", Kind::Coefficients),
     ("damaged", Kind::Damaged),
     ("foreign", Kind::Foreign),
+    ("header", Kind::Header),
 ];
 
 /// A stream with a name that tells how to make it again.
@@ -56,6 +59,10 @@ pub fn make(kind: Kind, seed: u64, limits: Limits) -> Made {
             let (what, bytes) = damage::foreign(&mut rng);
             (format!("foreign-{}-{}", seed, what), bytes, None)
         }
+        Kind::Header => {
+            let header = setting::chosen(seed as usize);
+            (format!("header-{}", seed), write::header(&mut rng, &header).bytes, None)
+        }
         Kind::Damaged => {
             let base = rng.pick(&[Kind::Syntax, Kind::Picture]);
             let (stream, _) = sound(&mut rng, base, limits);
@@ -67,7 +74,7 @@ pub fn make(kind: Kind, seed: u64, limits: Limits) -> Made {
             (format!("{:?}-{}", kind, seed).to_lowercase(), stream.bytes, exact)
         }
     };
-    Made { name, bytes, sound: !matches!(kind, Kind::Damaged | Kind::Foreign), exact }
+    Made { name, bytes, sound: matches!(kind, Kind::Syntax | Kind::Picture | Kind::Coefficients), exact }
 }
 
 /// Makes a sheet of letters to measure with.
@@ -167,6 +174,13 @@ mod tests {
             if header.fq == 0 {
                 assert!(page.components.iter().zip(&picture).all(|(component, samples)| component.samples == *samples));
             }
+        }
+    }
+
+    #[test]
+    fn chosen_headers_are_accepted() {
+        for seed in 0..12 {
+            independent::a::header(&make(Kind::Header, seed, SMALL).bytes).unwrap();
         }
     }
 

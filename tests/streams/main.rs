@@ -1,6 +1,6 @@
 //! Writes a stream for tests to standard output.
 //!
-//! Usage: `stream KIND SEED [large]`, KIND being syntax, picture, coefficients, damaged or foreign; or
+//! Usage: `stream KIND SEED [large]`, KIND being syntax, picture, coefficients, damaged, foreign or header; or
 //! `stream measured NAME WIDTH HEIGHT`, NAME being lossless, lossy, subsampled or sheet.
 
 use std::env;
@@ -39,10 +39,10 @@ fn random_stream(kind: &str, seed: &str, limits: setting::Limits) -> Option<Vec<
 fn measured_page(name: &str, width: &str, height: &str) -> Option<Vec<u8>> {
     let (width, height) = (width.parse().ok()?, height.parse().ok()?);
     let (header, max_q) = match name {
-        "lossless" => (setting::measured(width, height, 3, 8, true, 1), 0),
-        "lossy" => (setting::measured(width, height, 3, 8, false, 1), 5),
-        "subsampled" => (setting::measured(width, height, 3, 8, false, 2), 5),
-        "sheet" => (setting::measured(width, height, 1, 8, true, 1), 0),
+        "lossless" => (setting::measured(width, height, true, &[(1, 1); 3]), 0),
+        "lossy" => (setting::measured(width, height, false, &[(1, 1); 3]), 5),
+        "subsampled" => (setting::measured(width, height, false, &[(1, 1), (2, 2), (2, 2)]), 5),
+        "sheet" => (setting::measured(width, height, true, &[(1, 1)]), 0),
         _ => return None,
     };
     Some(measured(&header, max_q, 1))

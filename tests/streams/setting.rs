@@ -29,29 +29,65 @@ pub fn random(rng: &mut Rng, limits: Limits) -> Header {
     }
 }
 
-/// A header for a picture to measure with: one slice for each 16 precincts, all bands alike, long packet headers.
-pub fn measured(wf: usize, hf: usize, components: usize, b: u32, lossless: bool, sy: usize) -> Header {
-    let chroma = CdtEntry { b, sx: sy, sy };
-    let full = CdtEntry { b, sx: 1, sy: 1 };
-    let cdt: Vec<CdtEntry> = (0..components).map(|c| if c == 0 { full } else { chroma }).collect();
+/// A header for a picture of 8-bit components to measure with, in slices of 16 precincts. The reversible colour transform
+/// is used where the sampling allows it.
+pub fn measured(wf: usize, hf: usize, lossless: bool, sampling: &[(usize, usize)]) -> Header {
+    let mut header = plain(wf, hf, (5, 2), sampling);
+    header.hsl = 16;
+    header.cpih = u8::from(sampling.len() == 3 && sampling.iter().all(|&(sx, _)| sx == 1));
+    if !lossless {
+        header.bw = 20;
+        header.fq = 8;
+    }
+    header
+}
+
+/// Headers whose layouts differ in kind: sampling, levels, columns, and heights that cut the last precinct.
+pub fn chosen(n: usize) -> Header {
+    const FULL: &[(usize, usize)] = &[(1, 1); 4];
+    const HALF: &[(usize, usize)] = &[(1, 1), (2, 1), (2, 1), (1, 1)];
+    const QUARTER: &[(usize, usize)] = &[(1, 1), (2, 2), (2, 2), (1, 1)];
+    const MIXED: &[(usize, usize)] = &[(1, 1), (2, 1), (2, 2), (1, 1)];
+    let (wf, hf, cw, hsl, levels, sampling) = [
+        (37, 9, 0, 2, (5, 0), &FULL[..3]),
+        (37, 9, 0, 2, (5, 1), &FULL[..3]),
+        (37, 9, 0, 2, (5, 2), &FULL[..3]),
+        (70, 6, 0, 1, (5, 2), &HALF[..3]),
+        (70, 5, 0, 1, (5, 1), &QUARTER[..3]),
+        (70, 13, 0, 2, (5, 2), &QUARTER[..3]),
+        (39, 11, 1, 1, (1, 1), &FULL[..1]),
+        (77, 7, 1, 3, (2, 2), &FULL[..2]),
+        (150, 10, 1, 2, (3, 2), &HALF[..]),
+        (203, 14, 2, 9, (2, 2), &QUARTER[..]),
+        (101, 15, 1, 4, (1, 1), &MIXED[..]),
+        (2, 3, 0, 1, (1, 1), &FULL[..4]),
+    ][n % 12];
+    let mut header = plain(wf, hf, levels, sampling);
+    header.cw = cw;
+    header.hsl = hsl;
+    header
+}
+
+/// A lossless header of 8-bit components without columns, all bands alike, with long packet headers.
+fn plain(wf: usize, hf: usize, (nlx, nly): (u32, u32), sampling: &[(usize, usize)]) -> Header {
     let mut header = Header {
         wf,
         hf,
         cw: 0,
-        hsl: 16,
-        nc: components,
-        bw: if lossless { b } else { 20 },
-        fq: if lossless { 0 } else { 8 },
-        br: if lossless && b > 12 { 5 } else { 4 },
-        cpih: u8::from(components == 3 && sy == 1),
-        nlx: 5,
-        nly: 2,
+        hsl: 1,
+        nc: sampling.len(),
+        bw: 8,
+        fq: 0,
+        br: 4,
+        cpih: 0,
+        nlx,
+        nly,
         lh: true,
         rl: false,
         qpih: 0,
         fs: false,
         rm: false,
-        cdt,
+        cdt: sampling.iter().map(|&(sx, sy)| CdtEntry { b: 8, sx, sy }).collect(),
         wgt: Vec::new(),
         caption: None,
         first_slice: 0,

@@ -169,6 +169,15 @@ pub fn stream(rng: &mut Rng, header: &Header, layout: &Layout, manner: Manner, s
     stream
 }
 
+/// Writes a stream that ends with its first slice header.
+pub fn header(rng: &mut Rng, header: &Header) -> Stream {
+    let mut stream = Stream::default();
+    write_header(&mut stream, rng, header, Manner { max_q: 0, varied: false });
+    stream.segment(0xff20, &[(0, 16)]);
+    stream.mend_length();
+    stream
+}
+
 /// All segments before the first slice header, in an order that Annex A allows.
 fn write_header(stream: &mut Stream, rng: &mut Rng, header: &Header, manner: Manner) {
     stream.put(&[(0xff10, 16)]);
