@@ -107,12 +107,13 @@ fn fields(rng: &mut Rng, limits: Limits) -> Header {
         .collect();
     let full = sampling.iter().all(|&(sx, _)| sx == 1);
     let nlx = rng.between(1, 5) as u32;
-    let wf = side(rng, limits.side);
+    let cw = if rng.once_in(2) { 0 } else { rng.between(1, 3) };
+    let wf = if cw == 0 || rng.once_in(4) { side(rng, limits.side) } else { columns(rng, cw, least_width(&cdt, nlx)) };
     let hf = side(rng, limits.side.min(limits.samples * 2 / wf + 1));
     Header {
         wf,
         hf,
-        cw: if rng.once_in(2) { 0 } else { rng.between(1, 3) },
+        cw,
         hsl: if rng.once_in(8) { 65_535 } else { rng.between(1, 5) },
         nc,
         bw,
@@ -162,6 +163,16 @@ fn side(rng: &mut Rng, most: usize) -> usize {
     }
 }
 
+/// A width of several columns.
+fn columns(rng: &mut Rng, cw: usize, least: usize) -> usize {
+    8 * cw * least * rng.between(1, 3) + rng.between(least, 8 * cw * least - 1)
+}
+
+/// The least width of a column (Table A.7).
+fn least_width(cdt: &[CdtEntry], nlx: u32) -> usize {
+    cdt.iter().map(|entry| entry.sx).max().unwrap_or(1) << nlx
+}
+
 /// The rules of Table A.7 and document 01 that join several fields.
 fn accepted(header: &Header) -> bool {
     let two = |n: usize, levels: u32| levels == 0 || (n - 1) >> (levels - 1) > 0;
@@ -170,8 +181,7 @@ fn accepted(header: &Header) -> bool {
         let (width, height) = ((header.wf + entry.sx - 1) / entry.sx, (header.hf + entry.sy - 1) / entry.sy);
         nly.map_or(false, |nly| two(width, header.nlx) && two(height, nly))
     });
-    let max_sx = header.cdt.iter().map(|entry| entry.sx).max().unwrap_or(1);
-    let least = max_sx << header.nlx;
+    let least = least_width(&header.cdt, header.nlx);
     levels_fit && (header.cw == 0 || header.wf % (8 * header.cw * least) >= least)
 }
 
