@@ -50,7 +50,7 @@ fn main() -> ExitCode {
 }
 
 fn options(words: &[String]) -> Option<Options> {
-    let (first, second) = (words.get(0)?.clone(), words.get(1)?.clone());
+    let (first, second) = (words.first()?.clone(), words.get(1)?.clone());
     let mut options =
         Options { first, second, sound: 300, damaged: 300, foreign: 20, headers: 0, seed: 1, limits: SMALL };
     let mut rest = words[2..].iter();

@@ -1,11 +1,13 @@
 //! Spoils sound streams.
 
 use crate::rng::Rng;
-use crate::write::Stream;
+use crate::stream::Stream;
+
+type Way = fn(&mut Rng, &mut Stream);
 
 /// Spoils a stream in one place or two and, mostly, mends the declared length so that the damage is reached. Says what was done.
 pub fn spoil(rng: &mut Rng, mut stream: Stream) -> (&'static str, Vec<u8>) {
-    let ways: [(&str, fn(&mut Rng, &mut Stream)); 13] = [
+    let ways: [(&str, Way); 13] = [
         ("bits", flip_bits),
         ("head-bits", flip_head_bits),
         ("field", set_field),
@@ -80,7 +82,7 @@ fn to_a_bound(rng: &mut Rng, stream: &mut Stream, choice: usize) {
     let all = u64::MAX >> (64 - field.width);
     let named = [0, 1, 2, 3, 4, 5, 6, 7, 8, 9, 12, 13, 15, 16, 17, 18, 19, 20, 26, 31, 32, 79, 80, 127, 128, 255];
     let large = [256, 0x7fff, 0x8000, 0x8b01, 16_384, 16_385, 0xff11, 0xff14, 0xff20, 0xff21, (1 << 20) - 1, 1 << 20];
-    let old = stream.get(field);
+    let old = field.get(&stream.bytes);
     let value = match rng.below(6) {
         0 => old.wrapping_add(1),
         1 => old.wrapping_sub(1),
@@ -89,7 +91,7 @@ fn to_a_bound(rng: &mut Rng, stream: &mut Stream, choice: usize) {
         4 => rng.next(),
         _ => rng.pick(&named),
     };
-    stream.set(field, value & all);
+    field.set(&mut stream.bytes, value & all);
 }
 
 /// Drops, repeats or exchanges whole segments.
@@ -127,7 +129,8 @@ fn shorten_subpacket(rng: &mut Rng, stream: &mut Stream) {
         return flip_bits(rng, stream);
     }
     for field in [subpacket.length, subpacket.precinct] {
-        stream.set(field, stream.get(field) - 1);
+        let length = field.get(&stream.bytes);
+        field.set(&mut stream.bytes, length - 1);
     }
     stream.bytes.remove(subpacket.bytes.end - 1);
 }
@@ -136,10 +139,11 @@ fn shorten_subpacket(rng: &mut Rng, stream: &mut Stream) {
 fn grow_precinct(rng: &mut Rng, stream: &mut Stream) {
     let choice = rng.below(stream.subpackets.len());
     let precinct = stream.subpackets[choice].precinct;
-    let last = stream.subpackets.iter().filter(|subpacket| subpacket.precinct.bit == precinct.bit).last();
+    let last = stream.subpackets.iter().rev().find(|subpacket| subpacket.precinct.bit == precinct.bit);
     let end = last.map_or(0, |subpacket| subpacket.bytes.end);
     let extra = rng.between(1, 8);
-    stream.set(precinct, stream.get(precinct) + extra as u64);
+    let length = precinct.get(&stream.bytes);
+    precinct.set(&mut stream.bytes, length + extra as u64);
     let filler = rng.bytes(extra);
     stream.bytes.splice(end..end, filler);
 }

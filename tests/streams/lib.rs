@@ -8,13 +8,15 @@ mod damage;
 mod forward;
 mod picture;
 mod rng;
+mod stream;
 mod write;
 
 use independent::a::Header;
 use independent::b::Layout;
 use rng::Rng;
 use setting::Limits;
-use write::{Manner, Source, Stream};
+use stream::Stream;
+use write::{Manner, Source};
 
 #[derive(Clone, Copy, Debug, PartialEq, Eq)]
 pub enum Kind {

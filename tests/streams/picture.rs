@@ -42,7 +42,7 @@ fn sample(rng: &mut Rng, style: Style, shape: &[u64], x: u64, y: u64, max: u64) 
         Style::Noise => rng.next() % (max + 1),
         Style::Slope => (x * (shape[0] % 97) + y * (shape[1] % 89) + rng.next() % grain) * (max / 512 + 1) % (max + 1),
         Style::Letters => {
-            let ink = (x / 3 ^ y / 11 << 8).wrapping_mul(shape[2] | 1) >> 20 & 3 == 0;
+            let ink = ((x / 3) ^ (y / 11 * 256)).wrapping_mul(shape[2] | 1) >> 20 & 3 == 0;
             (if ink { max / 8 } else { max - max / 8 }) - rng.next() % grain
         }
         Style::Extremes => max * ((x / (1 + shape[2] % 3) + y / (1 + shape[3] % 3)) % 2),

@@ -1,10 +1,10 @@
-//! Writes codestreams (Annexes A to C), keeping note of where their parts stand so that they can be spoilt.
+//! Writes codestreams (Annexes A to C).
 
 use crate::forward;
 use crate::rng::Rng;
+use crate::stream::{Bits, Draft, Field, Stream, Subpacket};
 use independent::a::Header;
 use independent::b::{Layout, Line, NG, SS};
-use std::ops::Range;
 
 /// Where the coefficients of a stream come from.
 pub enum Source {
@@ -23,137 +23,23 @@ pub struct Manner {
     pub varied: bool,
 }
 
-/// A stream and where its parts stand.
-#[derive(Clone, Default)]
-pub struct Stream {
-    pub bytes: Vec<u8>,
-    pub fields: Vec<Field>,
-    /// Marker segments with their markers.
-    pub segments: Vec<Range<usize>>,
-    pub subpackets: Vec<Subpacket>,
-}
-
-/// A field of fixed length: its first bit counted from the start of the stream, and its width.
-#[derive(Clone, Copy)]
-pub struct Field {
-    pub bit: usize,
-    pub width: u32,
-}
-
-#[derive(Clone)]
-pub struct Subpacket {
-    pub counts: bool,
-    pub bytes: Range<usize>,
-    /// Its length field, and that of its precinct.
-    pub length: Field,
-    pub precinct: Field,
-}
-
-/// Collects bits from the left of each byte.
-#[derive(Default)]
-struct Bits {
-    bytes: Vec<u8>,
-    used: usize,
-}
-
-impl Bits {
-    fn put(&mut self, value: u64, width: u32) {
-        for i in (0..width).rev() {
-            if self.used % 8 == 0 {
-                self.bytes.push(0);
-            }
-            let bit = (value >> i & 1) as u8;
-            *self.bytes.last_mut().expect("a byte was pushed") |= bit << (7 - self.used % 8);
-            self.used += 1;
-        }
-    }
-
-    /// Fills the last byte with any bits.
-    fn pad(&mut self, rng: &mut Rng) {
-        while self.used % 8 != 0 {
-            self.put(rng.next() & 1, 1);
-        }
-    }
-}
-
-impl Stream {
-    /// Writes a field that starts and ends at any bit; `used` bits of the last byte are already in use.
-    fn field(&mut self, used: &mut u32, value: u64, width: u32) -> Field {
-        assert!(value >> width == 0, "{} does not fit {} bits", value, width);
-        let bit = 8 * self.bytes.len() - if *used == 0 { 0 } else { 8 - *used as usize };
-        for i in (0..width).rev() {
-            if *used == 0 {
-                self.bytes.push(0);
-            }
-            *self.bytes.last_mut().expect("a byte was pushed") |= ((value >> i & 1) as u8) << (7 - *used);
-            *used = (*used + 1) % 8;
-        }
-        let field = Field { bit, width };
-        self.fields.push(field);
-        field
-    }
-
-    /// Writes fields one behind the other, from a byte's start on.
-    fn put(&mut self, fields: &[(u64, u32)]) -> Vec<Field> {
-        let mut used = 0;
-        fields.iter().map(|&(value, width)| self.field(&mut used, value, width)).collect()
-    }
-
-    /// Writes a marker segment; the length is found from its fields.
-    fn segment(&mut self, marker: u64, fields: &[(u64, u32)]) {
-        let start = self.bytes.len();
-        let bits: u32 = fields.iter().map(|field| field.1).sum();
-        self.put(&[(marker, 16), (2 + u64::from(bits) / 8, 16)]);
-        self.put(fields);
-        self.segments.push(start..self.bytes.len());
-    }
-
-    /// Changes a field.
-    pub fn set(&mut self, field: Field, value: u64) {
-        for i in 0..field.width as usize {
-            let (byte, shift) = ((field.bit + i) / 8, 7 - (field.bit + i) % 8);
-            let bit = (value >> (field.width as usize - 1 - i) & 1) as u8;
-            self.bytes[byte] = self.bytes[byte] & !(1 << shift) | bit << shift;
-        }
-    }
-
-    pub fn get(&self, field: Field) -> u64 {
-        let bit = |i: usize| u64::from(self.bytes[i / 8] >> (7 - i % 8) & 1);
-        (field.bit..field.bit + field.width as usize).fold(0, |value, i| value << 1 | bit(i))
-    }
-
-    /// Makes the declared length the real one, if the length field is still there.
-    pub fn mend_length(&mut self) {
-        let at = self.lcod();
-        let length = (self.bytes.len() as u32).to_be_bytes();
-        if let Some(field) = self.bytes.get_mut(at..at + 4) {
-            field.copy_from_slice(&length);
-        }
-    }
-
-    /// Where Lcod stands: behind SOC, CAP, and marker and length of PIH.
-    fn lcod(&self) -> usize {
-        self.segments[2].start + 4
-    }
-}
-
 /// Writes a whole stream.
 pub fn stream(rng: &mut Rng, header: &Header, layout: &Layout, manner: Manner, source: &Source) -> Stream {
-    let mut stream = Stream::default();
-    write_header(&mut stream, rng, header, manner);
+    let mut draft = Draft::default();
+    let lcod = write_header(&mut draft, rng, header, manner);
     let mut writer = Writer {
         rng,
         header,
         layout,
         manner,
         source,
-        stream,
+        draft,
         counts: layout.bands.iter().map(|band| vec![0; band.map_or(0, |band| band.width / NG + 1)]).collect(),
         line_t: vec![vec![0; layout.columns]; layout.bands.len()],
     };
     let mut first_row = 0;
     for (t, rows) in (0..).map(|t| layout.slice_rows(t)).take_while(|&rows| rows > 0).enumerate() {
-        writer.stream.segment(0xff20, &[(t as u64, 16)]);
+        writer.draft.segment(0xff20, &[(t as u64, 16)]);
         for row in first_row..first_row + rows {
             let packets = layout.packets(row);
             for column in 0..layout.columns {
@@ -162,30 +48,26 @@ pub fn stream(rng: &mut Rng, header: &Header, layout: &Layout, manner: Manner, s
         }
         first_row += rows;
     }
-    let mut stream = writer.stream;
-    stream.segments.push(stream.bytes.len()..stream.bytes.len() + 2);
-    stream.put(&[(0xff11, 16)]);
-    stream.mend_length();
-    stream
+    let mut draft = writer.draft;
+    draft.marker(0xff11);
+    draft.finish(lcod)
 }
 
 /// Writes a stream that ends with its first slice header.
 pub fn header(rng: &mut Rng, header: &Header) -> Stream {
-    let mut stream = Stream::default();
-    write_header(&mut stream, rng, header, Manner { max_q: 0, varied: false });
-    stream.segment(0xff20, &[(0, 16)]);
-    stream.mend_length();
-    stream
+    let mut draft = Draft::default();
+    let lcod = write_header(&mut draft, rng, header, Manner { max_q: 0, varied: false });
+    draft.segment(0xff20, &[(0, 16)]);
+    draft.finish(lcod)
 }
 
-/// All segments before the first slice header, in an order that Annex A allows.
-fn write_header(stream: &mut Stream, rng: &mut Rng, header: &Header, manner: Manner) {
-    stream.put(&[(0xff10, 16)]);
-    stream.segments.push(0..2);
+/// All segments before the first slice header, in an order that Annex A allows. Gives the field of Lcod.
+fn write_header(draft: &mut Draft, rng: &mut Rng, header: &Header, manner: Manner) -> Field {
+    draft.marker(0xff10);
     let capabilities = if manner.varied { rng.below(4) } else { 0 };
     let bits: Vec<_> = rng.bytes(capabilities).into_iter().map(|byte| (u64::from(byte), 8)).collect();
-    stream.segment(0xff50, &bits);
-    stream.segment(0xff12, &picture_header(rng, header));
+    draft.segment(0xff50, &bits);
+    let lcod = draft.segment(0xff12, &picture_header(rng, header))[0];
     let components: Vec<_> = header
         .cdt
         .iter()
@@ -196,17 +78,18 @@ fn write_header(stream: &mut Stream, rng: &mut Rng, header: &Header, manner: Man
     let mut registration = manner.varied && rng.once_in(3);
     for (marker, fields) in [(0xff13, components), (0xff14, weights), (0, Vec::new())] {
         while manner.varied && rng.once_in(4) {
-            extension(stream, rng);
+            extension(draft, rng);
         }
         if registration && rng.once_in(2) {
             registration = false;
             let places: Vec<_> = (0..2 * header.nc).map(|_| (rng.next() & 0xffff, 16)).collect();
-            stream.segment(0xff19, &places);
+            draft.segment(0xff19, &places);
         }
         if marker != 0 {
-            stream.segment(marker, &fields);
+            draft.segment(marker, &fields);
         }
     }
+    lcod
 }
 
 /// Table A.7 behind the length field. Lcod is set when the stream is whole.
@@ -240,12 +123,12 @@ fn picture_header(rng: &mut Rng, header: &Header) -> Vec<(u64, u32)> {
 }
 
 /// An extension of an accepted type, captions among them, some of them empty.
-fn extension(stream: &mut Stream, rng: &mut Rng) {
+fn extension(draft: &mut Draft, rng: &mut Rng) {
     let kind = rng.pick(&[0x0000, 0x0001, 0x8000, 0x8b01, 0x8b01, 0x8b02, 0xffff]);
     let length = rng.pick(&[0, 1, 5, 12]);
     let mut fields = vec![(kind, 16)];
     fields.extend(rng.bytes(length).into_iter().map(|byte| (u64::from(byte), 8)));
-    stream.segment(0xff15, &fields);
+    draft.segment(0xff15, &fields);
 }
 
 /// How a precinct codes one band: D[p,b] and T[p,b].
@@ -270,7 +153,7 @@ struct Writer<'a> {
     layout: &'a Layout,
     manner: Manner,
     source: &'a Source,
-    stream: Stream,
+    draft: Draft,
     /// By band index: bitplane counts and truncation position of the latest line in each column of precincts.
     counts: Vec<Vec<u32>>,
     line_t: Vec<Vec<u32>>,
@@ -280,9 +163,9 @@ impl Writer<'_> {
     fn precinct(&mut self, top: bool, column: usize, packets: &[Vec<Line>]) {
         let q = self.rng.between(0, self.manner.max_q);
         let r = if self.manner.varied { self.rng.below(2 * self.layout.bands.len()) } else { 0 };
-        let length = self.stream.put(&[(0, 24), (q as u64, 8), (r as u64, 8)])[0];
+        let length = self.draft.put(&[(0, 24), (q as u64, 8), (r as u64, 8)])[0];
         let codings = self.modes(top, q, r);
-        let body = self.stream.bytes.len();
+        let body = self.draft.length();
         let mut raw = vec![None; self.layout.filters.len()];
         for lines in packets {
             let beta = lines[0].band / self.header.nc;
@@ -290,14 +173,13 @@ impl Writer<'_> {
             let raw = if self.header.rl { fresh } else { *raw[beta].get_or_insert(fresh) };
             self.packet(lines, column, raw, &codings, length);
         }
-        let size = self.stream.bytes.len() - body;
-        assert!(size < 1 << 20, "a precinct of {} bytes", size);
-        self.stream.set(length, size as u64);
+        let size = self.draft.length() - body;
+        assert!(size < 1 << 20, "a precinct of {size} bytes");
+        length.set(&mut self.draft.bits.bytes, size as u64);
     }
 
     /// Writes D of each existing band; the first row of a slice has no vertical prediction.
     fn modes(&mut self, top: bool, q: usize, r: usize) -> Vec<Coding> {
-        let mut used = 0;
         let mut weights = self.header.wgt.iter();
         let mut codings = vec![Coding::default(); self.layout.bands.len()];
         for (coding, _) in codings.iter_mut().zip(&self.layout.bands).filter(|(_, band)| band.is_some()) {
@@ -306,13 +188,9 @@ impl Writer<'_> {
             let d = if self.manner.varied { self.rng.below(4) as u8 } else { 1 };
             coding.d = if top { d & 2 } else { d };
             coding.t = step.clamp(0, (1 << self.header.br) - 1) as u32;
-            self.stream.field(&mut used, u64::from(coding.d), 2);
+            self.draft.field(u64::from(coding.d), 2);
         }
-        if used != 0 {
-            let left = 8 - used;
-            let padding = self.rng.next() & ((1 << left) - 1);
-            self.stream.field(&mut used, padding, left);
-        }
+        self.draft.bits.pad(self.rng);
         codings
     }
 
@@ -329,18 +207,12 @@ impl Writer<'_> {
         let widths = if long { [20, 20, 15] } else { [15, 13, 11] };
         let lengths = [data.len(), counts.len(), signs.len()].map(|length| length as u64);
         let fields = [(u64::from(raw), 1), (lengths[0], widths[0]), (lengths[1], widths[1]), (lengths[2], widths[2])];
-        let head = self.stream.put(&fields);
-        self.stream.bytes.extend(body.flags.bytes);
-        for (bytes, length) in [(counts, head[2]), (data, head[1]), (signs, head[3])] {
-            let start = self.stream.bytes.len();
-            self.stream.bytes.extend(&bytes);
-            let place = start..start + bytes.len();
-            self.stream.subpackets.push(Subpacket {
-                counts: length.bit == head[2].bit,
-                bytes: place,
-                length,
-                precinct,
-            });
+        let head = self.draft.put(&fields);
+        self.draft.bits.bytes.extend(body.flags.bytes);
+        for (bytes, length, counts) in [(counts, head[2], true), (data, head[1], false), (signs, head[3], false)] {
+            let start = self.draft.length();
+            self.draft.bits.bytes.extend(bytes);
+            self.draft.subpackets.push(Subpacket { bytes: start..self.draft.length(), counts, length, precinct });
         }
     }
 
@@ -403,7 +275,9 @@ impl Writer<'_> {
         if raw {
             let largest = (1 << br) - 1;
             let counts: Vec<u32> = wanted.iter().map(|&m| m.min(largest)).collect();
-            counts.iter().for_each(|&m| body.counts.put(u64::from(m), br));
+            for &m in &counts {
+                body.counts.put(u64::from(m), br);
+            }
             return counts;
         }
         if coding.d & 2 != 0 {
@@ -418,7 +292,7 @@ impl Writer<'_> {
         }
         let code = |(&m, &m_top): (&u32, &u32)| {
             let (m, ones) = codable(m.max(coding.t), m_top, coding.t, 2 << br);
-            (0..ones).for_each(|_| body.counts.put(1, 1));
+            body.counts.put((1 << ones) - 1, ones);
             body.counts.put(0, 1);
             m
         };
@@ -440,7 +314,9 @@ impl Writer<'_> {
         }
         let sign = |index: i32| u64::from(index < 0);
         if self.header.fs {
-            indices.iter().filter(|&&index| index != 0).for_each(|&index| body.signs.put(sign(index), 1));
+            for &index in indices.iter().filter(|&&index| index != 0) {
+                body.signs.put(sign(index), 1);
+            }
         } else {
             // The sign of an index of 0 means nothing.
             for &index in &indices {
