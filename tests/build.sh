@@ -4,8 +4,8 @@ set -eu
 out=${1:?"usage: build.sh FOLDER"}
 here=$(dirname "$0")
 mkdir -p "$out"
-build() { rustc -O --edition 2021 -D warnings -L "$out" "$@"; }
-build_tests() { rustc --test -C opt-level=1 -C debug-assertions --edition 2021 -D warnings -L "$out" "$@"; }
+build() { rustc -O --edition 2021 -L "$out" "$@"; }
+build_tests() { rustc --test -C opt-level=1 -C debug-assertions --edition 2021 -L "$out" "$@"; }
 build --crate-type rlib --crate-name independent "$here/independent/lib.rs" --out-dir "$out"
 build --extern independent --crate-name page "$here/independent/main.rs" -o "$out/page"
 build_tests "$here/independent/lib.rs" -o "$out/independent-tests"

@@ -92,7 +92,7 @@ pub fn reconstruct(header: &a::Header, layout: &b::Layout, mut planes: Vec<e::Pl
 /// The bench caption: the stream's own bytes; empty when there is none or the header is refused.
 pub fn caption(s: &[u8]) -> &[u8] {
     match a::header(s) {
-        Ok(header) => header.caption.map_or(&[], |part| &s[part]),
+        Ok(header) => header.caption.map_or(&s[..0], |part| &s[part]),
         Err(_) => &[],
     }
 }

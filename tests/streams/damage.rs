@@ -1,24 +1,29 @@
 //! Spoils sound streams.
 
 use crate::rng::Rng;
-use crate::stream::Stream;
+use crate::stream::{Field, Stream, Subpacket};
+use std::ops::Range;
 
 type Way = fn(&mut Rng, &mut Stream);
 
 /// Spoils a stream in one place or two and, mostly, mends the declared length so that the damage is reached. Says what was done.
 pub fn spoil(rng: &mut Rng, mut stream: Stream) -> (&'static str, Vec<u8>) {
-    let ways: [(&str, Way); 13] = [
+    let ways: [(&str, Way); 17] = [
         ("bits", flip_bits),
         ("head-bits", flip_head_bits),
         ("field", set_field),
         ("field", set_field),
         ("head-field", set_head_field),
         ("head-field", set_head_field),
+        ("head-field", set_head_field),
+        ("segments", move_segments),
         ("segments", move_segments),
         ("insert", insert_segment),
+        ("raw", flip_raw_flag),
         ("shorten", shorten_subpacket),
         ("grow", grow_precinct),
         ("long-code", lengthen_code),
+        ("ones", replace_counts),
         ("cut", cut),
         ("tail", add_tail),
     ];
@@ -65,20 +70,21 @@ fn first_slice(stream: &Stream) -> usize {
 }
 
 fn set_field(rng: &mut Rng, stream: &mut Stream) {
-    let choice = rng.below(stream.fields.len());
-    to_a_bound(rng, stream, choice);
+    let field = stream.fields[rng.below(stream.fields.len())];
+    to_a_bound(rng, stream, field);
 }
 
+/// Takes each segment before the first slice as often as any other, however many fields it has.
 fn set_head_field(rng: &mut Rng, stream: &mut Stream) {
-    let end = 8 * first_slice(stream);
-    let head = stream.fields.iter().take_while(|field| field.bit < end).count();
-    let choice = rng.below(head);
-    to_a_bound(rng, stream, choice);
+    let segment = head_segment(rng, stream);
+    let within = |field: &&Field| segment.contains(&(field.bit / 8));
+    let fields: Vec<Field> = stream.fields.iter().filter(within).copied().collect();
+    let field = rng.pick(&fields);
+    to_a_bound(rng, stream, field);
 }
 
 /// Gives a field a value at the bounds of its own range or of one that the standard names.
-fn to_a_bound(rng: &mut Rng, stream: &mut Stream, choice: usize) {
-    let field = stream.fields[choice];
+fn to_a_bound(rng: &mut Rng, stream: &mut Stream, field: Field) {
     let all = u64::MAX >> (64 - field.width);
     let named = [0, 1, 2, 3, 4, 5, 6, 7, 8, 9, 12, 13, 15, 16, 17, 18, 19, 20, 26, 31, 32, 79, 80, 127, 128, 255];
     let large = [256, 0x7fff, 0x8000, 0x8b01, 16_384, 16_385, 0xff11, 0xff14, 0xff20, 0xff21, (1 << 20) - 1, 1 << 20];
@@ -94,15 +100,30 @@ fn to_a_bound(rng: &mut Rng, stream: &mut Stream, choice: usize) {
     field.set(&mut stream.bytes, value & all);
 }
 
+/// A segment up to and with the first slice header.
+fn head_segment(rng: &mut Rng, stream: &Stream) -> Range<usize> {
+    let end = first_slice(stream);
+    let head = stream.segments.iter().filter(|segment| segment.start <= end).count();
+    stream.segments[rng.below(head)].clone()
+}
+
+/// A segment, mostly one up to and with the first slice header.
+fn any_segment(rng: &mut Rng, stream: &Stream) -> Range<usize> {
+    match rng.below(4) {
+        0 => stream.segments[rng.below(stream.segments.len())].clone(),
+        _ => head_segment(rng, stream),
+    }
+}
+
 /// Drops, repeats or exchanges whole segments.
 fn move_segments(rng: &mut Rng, stream: &mut Stream) {
-    let (one, other) = (rng.below(stream.segments.len()), rng.below(stream.segments.len()));
-    let (first, second) = (stream.segments[one.min(other)].clone(), stream.segments[one.max(other)].clone());
+    let (one, other) = (any_segment(rng, stream), any_segment(rng, stream));
+    let (first, second) = if one.start < other.start { (one, other) } else { (other, one) };
     let (early, late) = (stream.bytes[first.clone()].to_vec(), stream.bytes[second.clone()].to_vec());
     match rng.below(3) {
         0 => drop(stream.bytes.drain(first)),
         1 => drop(stream.bytes.splice(second.start..second.start, early)),
-        _ if one == other => stream.bytes.truncate(second.start),
+        _ if first == second => stream.bytes.truncate(second.start),
         _ => {
             stream.bytes.splice(second, early);
             stream.bytes.splice(first, late);
@@ -118,8 +139,14 @@ fn insert_segment(rng: &mut Rng, stream: &mut Stream) {
     let length = rng.pick(&[0, 1, 2, 3, 4, 5, 6, 10, 14, 18]);
     segment.extend([0, length]);
     segment.extend((2..length).map(|_| rng.pick(&[0, 0, 1, 2, 3, 0x80, 0x8b])));
-    let at = stream.segments[rng.below(stream.segments.len())].start;
+    let at = any_segment(rng, stream).start;
     stream.bytes.splice(at..at, segment);
+}
+
+fn flip_raw_flag(rng: &mut Rng, stream: &mut Stream) {
+    let raw = stream.subpackets[rng.below(stream.subpackets.len())].raw;
+    let flag = raw.get(&stream.bytes);
+    raw.set(&mut stream.bytes, 1 - flag);
 }
 
 /// Takes the last byte of a subpacket away, with both lengths mended.
@@ -159,6 +186,21 @@ fn lengthen_code(rng: &mut Rng, stream: &mut Stream) {
     let start = rng.between(place.start, place.end - 1);
     let end = place.end.min(start + rng.between(1, 9));
     stream.bytes[start..end].fill(0xff);
+}
+
+/// Makes a count subpacket begin, and perhaps end, with about as many ones as a code may have; both lengths are mended.
+fn replace_counts(rng: &mut Rng, stream: &mut Stream) {
+    let counts: Vec<&Subpacket> = stream.subpackets.iter().filter(|subpacket| subpacket.counts).collect();
+    let subpacket = counts[rng.below(counts.len())].clone();
+    let mut bytes = vec![0xff; rng.pick(&[3, 4, 5, 7, 8, 9])];
+    if rng.once_in(2) {
+        bytes.push(rng.pick(&[0x00, 0x80, 0xc0, 0xfe]));
+    }
+    let length = subpacket.length.get(&stream.bytes);
+    let precinct = subpacket.precinct.get(&stream.bytes);
+    subpacket.length.set(&mut stream.bytes, bytes.len() as u64);
+    subpacket.precinct.set(&mut stream.bytes, precinct - length + bytes.len() as u64);
+    stream.bytes.splice(subpacket.bytes, bytes);
 }
 
 fn cut(rng: &mut Rng, stream: &mut Stream) {

@@ -122,7 +122,7 @@ fn fields(rng: &mut Rng, limits: Limits) -> Header {
         cpih: u8::from(nc >= 3 && full && rng.once_in(2)),
         nlx,
         nly: rng.between(0, 2.min(nlx as usize)) as u32,
-        lh: rng.once_in(3) || limits.side > SMALL.side,
+        lh: rng.once_in(3) || needs_long_headers(wf * nc),
         rl: rng.once_in(2),
         qpih: u8::from(rng.once_in(2)),
         fs: rng.once_in(2),
@@ -132,6 +132,11 @@ fn fields(rng: &mut Rng, limits: Limits) -> Header {
         caption: None,
         first_slice: 0,
     }
+}
+
+/// Whether a length could outgrow a short packet header where none has been replaced by a long one (Table C.4).
+fn needs_long_headers(line: usize) -> bool {
+    (2_000..32_752).contains(&line)
 }
 
 /// Sampling factors: the usual ones, and any others that Table A.15 allows.

@@ -18,9 +18,10 @@ pub struct Subpacket {
     pub bytes: Range<usize>,
     /// Whether it holds bitplane counts.
     pub counts: bool,
-    /// Its length field, and that of its precinct.
+    /// Its length field, that of its precinct, and the raw flag of its packet.
     pub length: Field,
     pub precinct: Field,
+    pub raw: Field,
 }
 
 /// A field of fixed length: its first bit counted from the start of the stream, and its width.

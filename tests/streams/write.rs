@@ -212,7 +212,8 @@ impl Writer<'_> {
         for (bytes, length, counts) in [(counts, head[2], true), (data, head[1], false), (signs, head[3], false)] {
             let start = self.draft.length();
             self.draft.bits.bytes.extend(bytes);
-            self.draft.subpackets.push(Subpacket { bytes: start..self.draft.length(), counts, length, precinct });
+            let bytes = start..self.draft.length();
+            self.draft.subpackets.push(Subpacket { bytes, counts, length, precinct, raw: head[0] });
         }
     }
 
