@@ -1,7 +1,7 @@
 //! Runs two programs on made streams and compares every byte that they print. Stops at the first difference.
 //!
-//! Usage: `compare FIRST SECOND [sound N] [damaged N] [foreign N] [headers N] [seed S] [large]`. FIRST and SECOND are
-//! command lines whose words are separated by spaces; each gets the stream on standard input. Sound streams are a third
+//! Usage: `compare FIRST SECOND [sound N] [damaged N] [bounds N] [foreign N] [headers N] [seed S] [large]`. FIRST and
+//! SECOND are command lines whose words are separated by spaces; each gets the stream on standard input. Sound streams are a third
 //! each of random syntax, pictures and coefficients; a page program must accept them, and for the latter two its samples
 //! must keep the distance that it prints. `stream KIND SEED` makes a stream again.
 
@@ -19,10 +19,8 @@ use streams::{make, Kind, Made};
 struct Options {
     first: String,
     second: String,
-    sound: usize,
-    damaged: usize,
-    foreign: usize,
-    headers: usize,
+    /// How many streams of each sort.
+    counts: [(&'static str, usize); 5],
     seed: u64,
     limits: Limits,
 }
@@ -32,7 +30,9 @@ fn main() -> ExitCode {
     let options = match options(&words) {
         Some(options) => options,
         None => {
-            eprintln!("usage: compare FIRST SECOND [sound N] [damaged N] [foreign N] [headers N] [seed S] [large]");
+            eprintln!(
+                "usage: compare FIRST SECOND [sound N] [damaged N] [bounds N] [foreign N] [headers N] [seed S] [large]"
+            );
             return ExitCode::from(2);
         }
     };
@@ -50,23 +50,24 @@ fn main() -> ExitCode {
 }
 
 fn options(words: &[String]) -> Option<Options> {
-    let (first, second) = (words.first()?.clone(), words.get(1)?.clone());
-    let mut options =
-        Options { first, second, sound: 300, damaged: 300, foreign: 20, headers: 0, seed: 1, limits: SMALL };
+    let mut options = Options {
+        first: words.first()?.clone(),
+        second: words.get(1)?.clone(),
+        counts: [("sound", 300), ("damaged", 300), ("bounds", 200), ("foreign", 20), ("headers", 0)],
+        seed: 1,
+        limits: SMALL,
+    };
     let mut rest = words[2..].iter();
     while let Some(word) = rest.next() {
         if word == "large" {
             options.limits = LARGE;
             continue;
         }
-        let number: usize = rest.next()?.parse().ok()?;
-        match word.as_str() {
-            "sound" => options.sound = number,
-            "damaged" => options.damaged = number,
-            "foreign" => options.foreign = number,
-            "headers" => options.headers = number,
-            "seed" => options.seed = number as u64,
-            _ => return None,
+        let number = rest.next()?;
+        if word == "seed" {
+            options.seed = number.parse().ok()?;
+        } else {
+            options.counts.iter_mut().find(|(sort, _)| sort == word)?.1 = number.parse().ok()?;
         }
     }
     Some(options)
@@ -74,21 +75,27 @@ fn options(words: &[String]) -> Option<Options> {
 
 impl Options {
     fn streams(&self) -> usize {
-        self.sound + self.damaged + self.foreign + self.headers
+        self.counts.iter().map(|(_, count)| count).sum()
     }
 
     /// Stream `n` of the run.
-    fn stream(&self, n: usize) -> Made {
-        let kind = if n < self.sound {
-            [Kind::Syntax, Kind::Picture, Kind::Coefficients][n % 3]
-        } else if n < self.sound + self.damaged {
-            Kind::Damaged
-        } else if n < self.sound + self.damaged + self.foreign {
-            Kind::Foreign
-        } else {
-            Kind::Header
-        };
-        make(kind, self.seed.wrapping_add(n as u64), self.limits)
+    fn stream(&self, mut n: usize) -> Made {
+        let seed = self.seed.wrapping_add(n as u64);
+        for &(sort, count) in &self.counts {
+            if n >= count {
+                n -= count;
+                continue;
+            }
+            let kind = match sort {
+                "sound" => [Kind::Syntax, Kind::Picture, Kind::Coefficients][n % 3],
+                "damaged" => Kind::Damaged,
+                "bounds" => Kind::Bounds,
+                "foreign" => Kind::Foreign,
+                _ => Kind::Header,
+            };
+            return make(kind, seed, self.limits);
+        }
+        unreachable!("a stream beyond the last")
     }
 }
 
@@ -124,7 +131,6 @@ fn compare(options: &Options) -> io::Result<Option<String>> {
     };
     let work = &work;
     thread::scope(|scope| (0..workers).for_each(|worker| drop(scope.spawn(move || work(worker)))));
-    eprintln!();
     let first = found.into_inner().expect("no worker panics").into_iter().min_by_key(|(n, _)| *n);
     match first {
         Some((_, result)) => result.map(Some),
@@ -138,8 +144,8 @@ fn compare(options: &Options) -> io::Result<Option<String>> {
 }
 
 fn progress(n: usize, all: usize) {
-    if n % 50 == 0 {
-        eprint!("\r{} of {} streams", n, all);
+    if n % (all / 10 + 1) == 0 {
+        eprintln!("{n} of {all} streams");
     }
 }
 

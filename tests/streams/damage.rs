@@ -39,7 +39,7 @@ pub fn spoil(rng: &mut Rng, mut stream: Stream) -> (&'static str, Vec<u8>) {
 }
 
 /// Finds the picture header by its marker and length, wherever the damage has put it.
-fn mend_length(bytes: &mut [u8]) {
+pub fn mend_length(bytes: &mut [u8]) {
     let length = (bytes.len() as u32).to_be_bytes();
     let head = bytes.windows(8).take(200).position(|window| window[..4] == [0xff, 0x12, 0x00, 0x1a]);
     if let Some(at) = head {

@@ -4,6 +4,7 @@
 
 pub mod setting;
 
+mod bounds;
 mod damage;
 mod forward;
 mod picture;
@@ -28,17 +29,20 @@ pub enum Kind {
     Coefficients,
     /// Spoilt streams.
     Damaged,
+    /// Pages with one header field at a bound, or one segment in a wrong place.
+    Bounds,
     /// Files of other formats.
     Foreign,
     /// Streams that end with their first slice header, for a few chosen layouts.
     Header,
 }
 
-pub const KINDS: [(&str, Kind); 6] = [
+pub const KINDS: [(&str, Kind); 7] = [
     ("syntax", Kind::Syntax),
     ("picture", Kind::Picture),
     ("coefficients", Kind::Coefficients),
     ("damaged", Kind::Damaged),
+    ("bounds", Kind::Bounds),
     ("foreign", Kind::Foreign),
     ("header", Kind::Header),
 ];
@@ -57,6 +61,10 @@ pub struct Made {
 pub fn make(kind: Kind, seed: u64, limits: Limits) -> Made {
     let mut rng = Rng::new(seed);
     let (name, bytes, exact) = match kind {
+        Kind::Bounds => {
+            let (what, bytes) = bounds::change(seed as usize);
+            (format!("bounds-{}-{}", seed, what), bytes, None)
+        }
         Kind::Foreign => {
             let (what, bytes) = damage::foreign(&mut rng);
             (format!("foreign-{}-{}", seed, what), bytes, None)

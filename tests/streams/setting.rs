@@ -68,6 +68,25 @@ pub fn chosen(n: usize) -> Header {
     header
 }
 
+/// How many headers `bounded` has.
+pub const BOUNDED: usize = 4;
+
+/// Headers of small pages, some of them as small as their levels allow.
+pub fn bounded(n: usize) -> Header {
+    match n {
+        0 => Header { cw: 1, ..plain(70, 5, (2, 2), &[(1, 1), (2, 2), (2, 1), (1, 1)]) },
+        1 => Header { bw: 20, fq: 8, cpih: 1, ..plain(5, 3, (3, 2), &[(1, 1); 3]) },
+        2 => Header { cw: 2, ..plain(68, 2, (1, 0), &[(1, 1), (2, 1)]) },
+        _ => {
+            let mut header = plain(17, 2, (5, 1), &[(1, 1)]);
+            header.bw = 13;
+            header.br = 5;
+            header.cdt[0].b = 13;
+            header
+        }
+    }
+}
+
 /// A lossless header of 8-bit components without columns, all bands alike, with long packet headers.
 fn plain(wf: usize, hf: usize, (nlx, nly): (u32, u32), sampling: &[(usize, usize)]) -> Header {
     let mut header = Header {
