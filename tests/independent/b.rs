@@ -26,7 +26,7 @@ pub struct Filter {
 
 /// A component's size (B.1) and levels (B.2).
 #[derive(Clone, Copy, Debug)]
-pub struct Plane {
+pub struct Shape {
     pub width: usize,
     pub height: usize,
     pub nlx: u32,
@@ -60,7 +60,7 @@ pub struct Line {
 /// Where everything lies that a header describes.
 #[derive(Debug)]
 pub struct Layout {
-    pub planes: Vec<Plane>,
+    pub shapes: Vec<Shape>,
     pub filters: Vec<Filter>,
     /// All bands by index b = N_c × β + i; None where a band does not exist (B.4).
     pub bands: Vec<Option<Band>>,
@@ -99,20 +99,20 @@ fn band_side(n: usize, d: u32, high: bool) -> usize {
 impl Layout {
     pub fn new(header: &Header) -> Layout {
         let filters = filters(header.nlx, header.nly);
-        let planes: Vec<Plane> = header
+        let shapes: Vec<Shape> = header
             .cdt
             .iter()
-            .map(|entry| Plane {
+            .map(|entry| Shape {
                 width: ceil_div(header.wf, entry.sx),
                 height: ceil_div(header.hf, entry.sy),
                 nlx: header.nlx,
                 nly: header.nly - log2(entry.sy),
             })
             .collect();
-        let mut bands = Vec::with_capacity(filters.len() * planes.len());
+        let mut bands = Vec::with_capacity(filters.len() * shapes.len());
         for (beta, filter) in filters.iter().enumerate() {
-            for (i, plane) in planes.iter().enumerate() {
-                bands.push(band(header, beta, filter, i, plane));
+            for (i, shape) in shapes.iter().enumerate() {
+                bands.push(band(header, beta, filter, i, shape));
             }
         }
         let max_sx = header.cdt.iter().map(|entry| entry.sx).max().unwrap_or(1);
@@ -121,7 +121,7 @@ impl Layout {
             cw => (8 * cw * max_sx) << header.nlx,
         };
         Layout {
-            planes,
+            shapes,
             filters,
             bands,
             columns: ceil_div(header.wf, cs),
@@ -136,7 +136,7 @@ impl Layout {
 
     /// The samples of all components together.
     pub fn samples(&self) -> usize {
-        self.planes.iter().map(|plane| plane.width * plane.height).sum()
+        self.shapes.iter().map(|shape| shape.width * shape.height).sum()
     }
 
     /// How many bands exist.
@@ -185,13 +185,13 @@ impl Layout {
 }
 
 /// Filter type β in component i, where it exists (B.4). Existence looks at the depth before it is cut to the component's levels.
-fn band(header: &Header, beta: usize, filter: &Filter, i: usize, plane: &Plane) -> Option<Band> {
+fn band(header: &Header, beta: usize, filter: &Filter, i: usize, shape: &Shape) -> Option<Band> {
     let (sx, sy) = (header.cdt[i].sx, header.cdt[i].sy);
     let first_line = if filter.high_y { 1 << (header.nly - filter.dy) } else { 0 };
     if first_line % sy != 0 {
         return None;
     }
-    let dy = filter.dy.min(plane.nly);
+    let dy = filter.dy.min(shape.nly);
     Some(Band {
         filter: beta,
         component: i,
@@ -199,9 +199,9 @@ fn band(header: &Header, beta: usize, filter: &Filter, i: usize, plane: &Plane) 
         dy,
         high_x: filter.high_x,
         high_y: filter.high_y,
-        width: band_side(plane.width, filter.dx, filter.high_x),
-        height: band_side(plane.height, dy, filter.high_y),
-        lines: 1 << (plane.nly - dy),
+        width: band_side(shape.width, filter.dx, filter.high_x),
+        height: band_side(shape.height, dy, filter.high_y),
+        lines: 1 << (shape.nly - dy),
         sx,
         sy,
     })
@@ -289,7 +289,7 @@ mod tests {
     #[test]
     fn component_sizes_are_rounded_up() {
         let layout = Layout::new(&header(5, 4, 1, 1, &QUARTER));
-        assert_eq!((layout.planes[1].width, layout.planes[1].height), (3, 2));
+        assert_eq!((layout.shapes[1].width, layout.shapes[1].height), (3, 2));
     }
 
     /// Each coefficient of each band is in just one packet of one precinct.

@@ -5,12 +5,12 @@ use super::b::Layout;
 
 /// The distance of each component, from the largest truncation position of each existing band.
 pub fn components(header: &Header, layout: &Layout, largest_t: &[u32]) -> Vec<u64> {
-    let mut inputs: Vec<Vec<u64>> = layout.planes.iter().map(|_| Vec::new()).collect();
+    let mut inputs: Vec<Vec<u64>> = layout.shapes.iter().map(|_| Vec::new()).collect();
     for (band, &t) in layout.bands.iter().flatten().zip(largest_t) {
         inputs[band.component].push(band_number(t, header.fq));
     }
-    let planes = inputs.into_iter().zip(&layout.planes);
-    let mut numbers: Vec<u64> = planes.map(|(bands, plane)| joined(&bands, plane.nlx, plane.nly)).collect();
+    let components = inputs.into_iter().zip(&layout.shapes);
+    let mut numbers: Vec<u64> = components.map(|(bands, shape)| joined(&bands, shape.nlx, shape.nly)).collect();
     if header.cpih == 1 {
         colours(&mut numbers);
     }

@@ -17,7 +17,7 @@ pub struct Plane {
 /// Components without any coefficients yet.
 pub fn planes(layout: &Layout) -> Vec<Plane> {
     let plane = |width, height| Plane { width, height, cells: vec![0; width * height] };
-    layout.planes.iter().map(|size| plane(size.width, size.height)).collect()
+    layout.shapes.iter().map(|shape| plane(shape.width, shape.height)).collect()
 }
 
 impl Plane {

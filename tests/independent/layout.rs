@@ -24,12 +24,12 @@ pub fn print(out: &mut impl Write, stream: &[u8]) -> io::Result<()> {
 
 /// Components (B.1 and B.2) and bands (B.2 to B.4).
 fn print_bands(out: &mut impl Write, layout: &Layout) -> io::Result<()> {
-    for (i, plane) in layout.planes.iter().enumerate() {
-        let (width, height, nlx, nly) = (plane.width, plane.height, plane.nlx, plane.nly);
+    for (i, shape) in layout.shapes.iter().enumerate() {
+        let (width, height, nlx, nly) = (shape.width, shape.height, shape.nlx, shape.nly);
         writeln!(out, "component {i} width {width} height {height} levels across {nlx} down {nly}")?;
     }
     for (b, band) in layout.bands.iter().enumerate() {
-        let (beta, i) = (b / layout.planes.len(), b % layout.planes.len());
+        let (beta, i) = (b / layout.shapes.len(), b % layout.shapes.len());
         match band {
             Some(Band { dx, dy, width, height, .. }) => {
                 writeln!(out, "filter {beta} component {i} exists dx {dx} dy {dy} width {width} height {height}")?;

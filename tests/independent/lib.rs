@@ -66,10 +66,10 @@ pub fn read(s: &[u8], room: usize) -> Result<Page, Refusal> {
     let (planes, largest_t) = c::codestream(s, &header, &layout)?;
     let distances = distance::components(&header, &layout, &largest_t);
     let samples = reconstruct(&header, &layout, planes);
-    let components = header.cdt.iter().zip(&layout.planes).zip(distances.into_iter().zip(samples));
-    let components = components.map(|((entry, plane), (distance, samples))| Component {
-        width: plane.width,
-        height: plane.height,
+    let components = header.cdt.iter().zip(&layout.shapes).zip(distances.into_iter().zip(samples));
+    let components = components.map(|((entry, shape), (distance, samples))| Component {
+        width: shape.width,
+        height: shape.height,
         precision: entry.b,
         distance,
         samples,
@@ -79,8 +79,8 @@ pub fn read(s: &[u8], room: usize) -> Result<Page, Refusal> {
 
 /// The samples of each component from its coefficients, multiplied by 2^Fq (Annexes E to G).
 pub fn reconstruct(header: &a::Header, layout: &b::Layout, mut planes: Vec<e::Plane>) -> Vec<Vec<u16>> {
-    for (plane, size) in planes.iter_mut().zip(&layout.planes) {
-        plane.inverse(size.nlx, size.nly);
+    for (plane, shape) in planes.iter_mut().zip(&layout.shapes) {
+        plane.inverse(shape.nlx, shape.nly);
     }
     if header.cpih == 1 {
         f::inverse_rct(&mut planes);

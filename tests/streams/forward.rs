@@ -22,10 +22,10 @@ pub fn coefficients(header: &Header, layout: &Layout, picture: &[Vec<u16>]) -> V
     }
     let mut bands: Vec<_> = components
         .into_iter()
-        .zip(&layout.planes)
-        .map(|(cells, plane)| {
-            let component = Plane { width: plane.width, height: plane.height, cells };
-            decompose(component, plane.nlx, plane.nly).into_iter()
+        .zip(&layout.shapes)
+        .map(|(cells, shape)| {
+            let component = Plane { width: shape.width, height: shape.height, cells };
+            decompose(component, shape.nlx, shape.nly).into_iter()
         })
         .collect();
     let next = |component: usize| bands[component].next().expect("each existing band comes out of the transform");
