@@ -1,9 +1,9 @@
 //! Runs two programs on made streams and compares every byte that they print. Stops at the first difference.
 //!
 //! Usage: `compare FIRST SECOND [sound N] [damaged N] [bounds N] [foreign N] [headers N] [seed S] [large]`. FIRST and
-//! SECOND are command lines whose words are separated by spaces; each gets the stream on standard input. Sound streams are a third
-//! each of random syntax, pictures and coefficients; a page program must accept them, and for the latter two its samples
-//! must keep the distance that it prints. `stream KIND SEED` makes a stream again.
+//! SECOND are command lines whose words are separated by spaces; each gets the stream on standard input. Sound streams
+//! are a third each of random syntax, pictures and coefficients; a page program must accept them, and for the latter two
+//! its samples must keep the distance that it prints. `stream KIND SEED` makes a stream again.
 
 use std::env;
 use std::fs::{self, File};
