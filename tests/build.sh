@@ -1,5 +1,6 @@
 #!/bin/sh
-# Builds the test programs with rustc alone: page, stream and compare, and the tests of their parts. Usage: build.sh FOLDER.
+# Builds the test programs with rustc alone: page, stream and compare, and the tests of their parts.
+# Usage: build.sh FOLDER
 set -eu
 out=${1:?"usage: build.sh FOLDER"}
 here=$(dirname "$0")

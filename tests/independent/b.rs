@@ -184,7 +184,8 @@ impl Layout {
     }
 }
 
-/// Filter type β in component i, where it exists (B.4). Existence looks at the depth before it is cut to the component's levels.
+/// Filter type β in component i, where it exists (B.4). Existence looks at the depth before it is cut to the levels that
+/// the component has.
 fn band(header: &Header, beta: usize, filter: &Filter, i: usize, shape: &Shape) -> Option<Band> {
     let (sx, sy) = (header.cdt[i].sx, header.cdt[i].sy);
     let first_line = if filter.high_y { 1 << (header.nly - filter.dy) } else { 0 };

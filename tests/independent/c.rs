@@ -222,7 +222,7 @@ impl<'a> Reader<'a> {
         Ok(())
     }
 
-    /// The data subpacket (C.5.4, Table C.9). Signs, if they are here, stand before a code group's bitplanes like one more.
+    /// The data subpacket (C.5.4, Table C.9). Signs, if they are here, stand before a group's bitplanes like one more.
     fn unpack_data(&mut self, spans: &[Span], data: &[u8]) -> Result<(), Row> {
         self.indices.clear();
         let mut bits = Bits::new(data);

@@ -6,7 +6,8 @@ use std::ops::Range;
 
 type Way = fn(&mut Rng, &mut Stream);
 
-/// Spoils a stream in one place or two and, mostly, mends the declared length so that the damage is reached. Says what was done.
+/// Spoils a stream in one place or two and, mostly, mends the declared length so that the damage is reached.
+/// Says what was done.
 pub fn spoil(rng: &mut Rng, mut stream: Stream) -> (&'static str, Vec<u8>) {
     let ways: [(&str, Way); 17] = [
         ("bits", flip_bits),
