@@ -271,8 +271,7 @@ fn is_long(header: &Header) -> bool {
 fn packet_header(bytes: &[u8], long: bool) -> PacketHeader {
     let bits = big_endian(bytes);
     let field = |low: u32, width: u32| (bits >> low & ((1 << width) - 1)) as usize;
-    let (lcnt_width, lsgn_width) = if long { (20, 15) } else { (13, 11) };
-    let ldat_width = if long { 20 } else { 15 };
+    let (ldat_width, lcnt_width, lsgn_width) = if long { (20, 20, 15) } else { (15, 13, 11) };
     PacketHeader {
         size: bytes.len(),
         raw: field(lsgn_width + lcnt_width + ldat_width, 1) == 1,
