@@ -276,10 +276,9 @@ fn sampling_across(header: &Header, sx: usize, place: usize) -> Result<(), Refus
     require(two_samples(b::ceil_div(header.wf, sx), header.nlx), Row::NotBuilt, place)
 }
 
-/// Judges sy of the next component.
+/// Judges sy of the next component. It is 1 where sx is, so that a colour transform asks no more of it.
 fn sampling_down(header: &Header, sx: usize, sy: usize, place: usize) -> Result<(), Refusal> {
     require((1..=sx).contains(&sy), Row::Value, place)?;
-    require(header.cpih != 1 || sy == 1, Row::Value, place)?;
     require(header.nly >= b::log2(sy), Row::Value, place)?;
     let nly = header.nly - b::log2(sy);
     require(two_samples(b::ceil_div(header.hf, sy), nly), Row::NotBuilt, place)

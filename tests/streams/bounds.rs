@@ -125,3 +125,15 @@ fn apply(change: Change, stream: &mut Stream) -> (&'static str, Vec<u8>) {
     mend_length(&mut bytes);
     (name, bytes)
 }
+
+#[cfg(test)]
+mod tests {
+    use super::*;
+
+    #[test]
+    fn pages_are_sound_until_they_are_changed() {
+        for n in 0..setting::BOUNDED {
+            independent::read(&page(n).bytes, setting::SMALL.samples).unwrap();
+        }
+    }
+}

@@ -74,7 +74,7 @@ pub const BOUNDED: usize = 4;
 /// Headers of small pages, some of them as small as their levels allow.
 pub fn bounded(n: usize) -> Header {
     match n {
-        0 => Header { cw: 1, ..plain(70, 5, (2, 2), &[(1, 1), (2, 2), (2, 1), (1, 1)]) },
+        0 => Header { cw: 1, ..plain(72, 5, (2, 2), &[(1, 1), (2, 2), (2, 1), (1, 1)]) },
         1 => Header { bw: 20, fq: 8, cpih: 1, ..plain(5, 3, (3, 2), &[(1, 1); 3]) },
         2 => Header { cw: 2, ..plain(68, 2, (1, 0), &[(1, 1), (2, 1)]) },
         _ => {
