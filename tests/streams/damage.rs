@@ -9,7 +9,7 @@ type Way = fn(&mut Rng, &mut Stream);
 /// Spoils a stream in one place or two and, mostly, mends the declared length so that the damage is reached.
 /// Says what was done.
 pub fn spoil(rng: &mut Rng, mut stream: Stream) -> (&'static str, Vec<u8>) {
-    let ways: [(&str, Way); 17] = [
+    let ways: [(&str, Way); 19] = [
         ("bits", flip_bits),
         ("head-bits", flip_head_bits),
         ("field", set_field),
@@ -20,6 +20,8 @@ pub fn spoil(rng: &mut Rng, mut stream: Stream) -> (&'static str, Vec<u8>) {
         ("segments", move_segments),
         ("segments", move_segments),
         ("insert", insert_segment),
+        ("precinct-field", set_precinct_field),
+        ("trim", trim_precinct),
         ("raw", flip_raw_flag),
         ("shorten", shorten_subpacket),
         ("grow", grow_precinct),
@@ -144,6 +146,28 @@ fn insert_segment(rng: &mut Rng, stream: &mut Stream) {
     stream.bytes.splice(at..at, segment);
 }
 
+/// Q or R of a precinct; they follow its length (Table C.1).
+fn set_precinct_field(rng: &mut Rng, stream: &mut Stream) {
+    let precinct = stream.subpackets[rng.below(stream.subpackets.len())].precinct;
+    let field = Field { bit: precinct.bit + rng.pick(&[24, 32]), width: 8 };
+    to_a_bound(rng, stream, field);
+}
+
+/// Takes any number of bytes from the end of a precinct, with its length mended.
+fn trim_precinct(rng: &mut Rng, stream: &mut Stream) {
+    let precinct = stream.subpackets[rng.below(stream.subpackets.len())].precinct;
+    let end = precinct_end(stream, precinct);
+    let length = precinct.get(&stream.bytes) as usize;
+    let left = rng.below(length);
+    precinct.set(&mut stream.bytes, left as u64);
+    stream.bytes.drain(end - (length - left)..end);
+}
+
+fn precinct_end(stream: &Stream, precinct: Field) -> usize {
+    let last = stream.subpackets.iter().rev().find(|subpacket| subpacket.precinct.bit == precinct.bit);
+    last.map_or(0, |subpacket| subpacket.bytes.end)
+}
+
 fn flip_raw_flag(rng: &mut Rng, stream: &mut Stream) {
     let raw = stream.subpackets[rng.below(stream.subpackets.len())].raw;
     let flag = raw.get(&stream.bytes);
@@ -167,8 +191,7 @@ fn shorten_subpacket(rng: &mut Rng, stream: &mut Stream) {
 fn grow_precinct(rng: &mut Rng, stream: &mut Stream) {
     let choice = rng.below(stream.subpackets.len());
     let precinct = stream.subpackets[choice].precinct;
-    let last = stream.subpackets.iter().rev().find(|subpacket| subpacket.precinct.bit == precinct.bit);
-    let end = last.map_or(0, |subpacket| subpacket.bytes.end);
+    let end = precinct_end(stream, precinct);
     let extra = rng.between(1, 8);
     let length = precinct.get(&stream.bytes);
     precinct.set(&mut stream.bytes, length + extra as u64);
