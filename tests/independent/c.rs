@@ -1,0 +1,429 @@
+//! Annex C: precinct headers, packets and entropy decoding.
+
+use super::a::{self, Header};
+use super::b::{ceil_div, Band, Layout, Line, NG, SS};
+use super::bits::Bits;
+use super::d;
+use super::e::{self, Plane};
+use super::{require, Refusal, Row};
+use std::ops::Range;
+
+/// What is kept of a band while the stream is read; nothing for one that does not exist.
+struct BandState {
+    largest_t: u32,
+    /// The bitplane counts of the latest line in each column of precincts, side by side.
+    counts: Vec<u8>,
+    /// The truncation position of the latest line in each column of precincts.
+    line_t: Vec<u32>,
+}
+
+/// Reads all slices and the end marker. Gives the components' coefficients, multiplied by 2^Fq (Table E.2), and each
+/// existing band's largest truncation position over all precincts that hold one of its coefficients.
+pub fn codestream(s: &[u8], header: &Header, layout: &Layout) -> Result<(Vec<Plane>, Vec<u32>), Refusal> {
+    let mut reader = Reader::new(s, header, layout);
+    let mut at = header.first_slice;
+    let (mut t, mut first_row) = (0, 0);
+    while layout.slice_rows(t) > 0 {
+        at = a::slice_header(s, at, t)?;
+        let next_slice = first_row + layout.slice_rows(t);
+        for row in first_row..next_slice {
+            let packets = layout.packets(row);
+            for column in 0..layout.columns {
+                at = reader.precinct(at, row == first_row, column, &packets)?;
+            }
+        }
+        first_row = next_slice;
+        t += 1;
+    }
+    a::end_of_codestream(s, at)?;
+    let existing = reader.bands.iter().zip(&layout.bands).filter(|(_, band)| band.is_some());
+    let largest_t = existing.map(|(state, _)| state.largest_t).collect();
+    Ok((reader.planes, largest_t))
+}
+
+/// The precinct that is being read: where it starts and ends, and its column.
+struct Precinct {
+    at: usize,
+    end: usize,
+    column: usize,
+}
+
+/// How a precinct codes one band.
+#[derive(Clone, Copy, Default)]
+struct Coding {
+    /// D[p,b]: bit 0 is vertical prediction, bit 1 significance coding (Table C.2).
+    d: u8,
+    /// T[p,b].
+    t: u32,
+    /// D_r of the packets met so far that hold the band.
+    raw: Option<bool>,
+}
+
+/// A packet header (Table C.4).
+struct PacketHeader {
+    size: usize,
+    raw: bool,
+    ldat: usize,
+    lcnt: usize,
+    lsgn: usize,
+    /// Where in the header the byte stands that holds the first bit of the sign length.
+    lsgn_at: usize,
+}
+
+/// A line of a packet within one column of precincts.
+struct Span {
+    band: usize,
+    column: usize,
+    coding: Coding,
+    component: usize,
+    /// The line's cells in the component, and its code groups in the band's line of bitplane counts.
+    cells: Range<usize>,
+    groups: Range<usize>,
+}
+
+struct Reader<'a> {
+    s: &'a [u8],
+    header: &'a Header,
+    layout: &'a Layout,
+    planes: Vec<Plane>,
+    /// By band index, as are the codings, which are fresh for each precinct.
+    bands: Vec<BandState>,
+    codings: Vec<Coding>,
+    /// The signed quantization indices of a packet, by code group.
+    indices: Vec<[i32; NG]>,
+}
+
+impl<'a> Reader<'a> {
+    fn new(s: &'a [u8], header: &'a Header, layout: &'a Layout) -> Reader<'a> {
+        let state = |band: &Option<Band>| BandState {
+            largest_t: 0,
+            counts: vec![0; band.map_or(0, |band| ceil_div(band.width, NG))],
+            line_t: vec![0; layout.columns],
+        };
+        Reader {
+            s,
+            header,
+            layout,
+            planes: e::planes(layout),
+            bands: layout.bands.iter().map(state).collect(),
+            codings: vec![Coding::default(); layout.bands.len()],
+            indices: Vec::new(),
+        }
+    }
+
+    /// Reads a precinct and gives the offset behind it.
+    fn precinct(&mut self, at: usize, top: bool, column: usize, packets: &[Vec<Line>]) -> Result<usize, Refusal> {
+        let (body, end) = self.precinct_header(at, top)?;
+        let precinct = Precinct { at, end, column };
+        let mut next = body;
+        for lines in packets {
+            next = self.packet(&precinct, next, lines)?;
+        }
+        require(next == end, Row::Length, at)?;
+        Ok(end)
+    }
+
+    /// Reads a precinct header (C.2, Table C.1) and gives the ends of the header and of the precinct.
+    fn precinct_header(&mut self, at: usize, top: bool) -> Result<(usize, usize), Refusal> {
+        let s = self.s;
+        require(at + 3 <= s.len(), Row::Cut, at)?;
+        let lprc = big_endian(&s[at..at + 3]) as usize;
+        require((1..1 << 20).contains(&lprc), Row::Value, at)?;
+        let modes = at + 5;
+        let body = modes + ceil_div(self.layout.existing(), 4);
+        let end = body + lprc;
+        require(end <= s.len(), Row::Length, at)?;
+        let (q, r) = (s[at + 3], s[at + 4]);
+        require(q <= 31, Row::Value, at + 3)?;
+        require(usize::from(r) < 2 * self.layout.bands.len(), Row::Value, at + 4)?;
+        let existing = self.codings.iter_mut().zip(&self.layout.bands).filter(|(_, band)| band.is_some());
+        for (n, ((coding, _), weight)) in existing.zip(&self.header.wgt).enumerate() {
+            let place = modes + n / 4;
+            let d = s[place] >> (6 - n % 4 * 2) & 3;
+            require(!top || d & 1 == 0, Row::Mode, place)?;
+            let t = truncation(q, r, *weight, self.header.br);
+            *coding = Coding { d, t, raw: None };
+        }
+        Ok((body, end))
+    }
+
+    /// Reads a packet (C.4, Table C.5) and gives the offset behind it.
+    fn packet(&mut self, precinct: &Precinct, at: usize, lines: &[Line]) -> Result<usize, Refusal> {
+        let head = self.packet_header(precinct, at, lines)?;
+        let end = precinct.end;
+        let spans: Vec<Span> = lines.iter().map(|line| self.span(line, precinct.column)).collect();
+        let flags_at = at + head.size;
+        let flags = subpacket(self.s, flags_at, significance_length(&spans, head.raw), end)?;
+        let counts_at = flags_at + flags.len();
+        let counts = subpacket(self.s, counts_at, head.lcnt, end)?;
+        self.unpack_counts(&spans, head.raw, flags, counts).map_err(|row| Refusal { row, place: counts_at })?;
+        let data_at = counts_at + head.lcnt;
+        let data = subpacket(self.s, data_at, head.ldat, end)?;
+        self.unpack_data(&spans, data).map_err(|row| Refusal { row, place: data_at })?;
+        let signs_at = data_at + head.ldat;
+        if self.header.fs {
+            let signs = subpacket(self.s, signs_at, head.lsgn, end)?;
+            unpack_signs(&mut self.indices, signs).map_err(|row| Refusal { row, place: signs_at })?;
+        }
+        self.dequantise(&spans);
+        Ok(signs_at + head.lsgn)
+    }
+
+    /// Reads and judges a packet header (C.3).
+    fn packet_header(&mut self, precinct: &Precinct, at: usize, lines: &[Line]) -> Result<PacketHeader, Refusal> {
+        let long = is_long(self.header);
+        let size = if long { 7 } else { 5 };
+        require(at + size <= precinct.end, Row::Length, precinct.at)?;
+        let head = packet_header(&self.s[at..at + size], long);
+        if !self.header.rl {
+            for line in lines {
+                let raw = *self.codings[line.band].raw.get_or_insert(head.raw);
+                require(raw == head.raw, Row::Mode, at)?;
+            }
+        }
+        require(self.header.fs || head.lsgn == 0, Row::Value, at + head.lsgn_at)?;
+        Ok(head)
+    }
+
+    fn span(&self, line: &Line, column: usize) -> Span {
+        let band = self.layout.bands[line.band].as_ref().expect("packets hold existing bands");
+        let x = self.layout.first_x(band, column);
+        let width = self.layout.width(band, column);
+        let start = self.planes[band.component].cell(band, x, line.y);
+        // The first coefficient of a column stands at a multiple of 8 (B.5), so code groups do not straddle columns.
+        let groups = x / NG..x / NG + ceil_div(width, NG);
+        let cells = start..start + width;
+        Span { band: line.band, column, coding: self.codings[line.band], component: band.component, cells, groups }
+    }
+
+    /// The bitplane count subpacket (C.5.3.5, Table C.8), with the significance flags (C.5.2, Table C.6).
+    /// A line of counts replaces the line above it in the same band.
+    fn unpack_counts(&mut self, spans: &[Span], raw: bool, flags: &[u8], counts: &[u8]) -> Result<(), Row> {
+        let mut bits = Bits::new(counts);
+        let mut first_flag = 0;
+        let limit = 2 << self.header.br;
+        for span in spans {
+            let band = &mut self.bands[span.band];
+            let t_top = std::mem::replace(&mut band.line_t[span.column], span.coding.t);
+            band.largest_t = band.largest_t.max(span.coding.t);
+            let line = &mut band.counts[span.groups.clone()];
+            if raw {
+                unpack_raw(&mut bits, self.header.br, line)?;
+                continue;
+            }
+            let flags = Flags { bytes: flags, first: first_flag, on: span.coding.d & 2 != 0 };
+            if span.coding.d & 1 == 0 {
+                unpack_nopred(&mut bits, &flags, limit, span.coding.t, line)?;
+            } else {
+                unpack_vertical(&mut bits, &flags, limit, span.coding.t, t_top, self.header.rm, line)?;
+            }
+            first_flag += significance_groups(span);
+        }
+        Ok(())
+    }
+
+    /// The data subpacket (C.5.4, Table C.9). Signs, if they are here, stand before a group's bitplanes like one more.
+    fn unpack_data(&mut self, spans: &[Span], data: &[u8]) -> Result<(), Row> {
+        self.indices.clear();
+        let mut bits = Bits::new(data);
+        for span in spans {
+            for &m in &self.bands[span.band].counts[span.groups.clone()] {
+                let planes = u32::from(m).saturating_sub(span.coding.t);
+                if planes == 0 {
+                    self.indices.push([0; NG]);
+                    continue;
+                }
+                let group = bits.group(planes + u32::from(!self.header.fs))?;
+                self.indices.push(group.map(|member| signed(member, planes)));
+            }
+        }
+        Ok(())
+    }
+
+    /// Turns a packet's indices into coefficients (Annex D), which take their places in the components.
+    fn dequantise(&mut self, spans: &[Span]) {
+        let mut rest: &[[i32; NG]] = &self.indices;
+        for span in spans {
+            let (indices, others) = rest.split_at(span.groups.len());
+            rest = others;
+            let counts = &self.bands[span.band].counts[span.groups.clone()];
+            let cells = &mut self.planes[span.component].cells[span.cells.clone()];
+            d::dequantise(self.header.qpih, span.coding.t, self.header.fq, counts, indices, cells);
+        }
+    }
+}
+
+fn big_endian(bytes: &[u8]) -> u64 {
+    bytes.iter().fold(0, |n, &byte| n << 8 | u64::from(byte))
+}
+
+/// T[p,b] (C.6.2, Table C.12).
+fn truncation(q: u8, r: u8, weight: a::Weight, br: u32) -> u32 {
+    let refinement = u8::from(weight.priority < r);
+    u32::from(q.saturating_sub(weight.gain + refinement)).min((1 << br) - 1)
+}
+
+/// Whether packet headers have 56 bits rather than 40 (Table C.4).
+fn is_long(header: &Header) -> bool {
+    header.lh || header.wf * header.nc >= 32_752
+}
+
+fn packet_header(bytes: &[u8], long: bool) -> PacketHeader {
+    let bits = big_endian(bytes);
+    let field = |low: u32, width: u32| (bits >> low & ((1 << width) - 1)) as usize;
+    let (ldat_width, lcnt_width, lsgn_width) = if long { (20, 20, 15) } else { (15, 13, 11) };
+    PacketHeader {
+        size: bytes.len(),
+        raw: field(lsgn_width + lcnt_width + ldat_width, 1) == 1,
+        ldat: field(lsgn_width + lcnt_width, ldat_width),
+        lcnt: field(lsgn_width, lcnt_width),
+        lsgn: field(0, lsgn_width),
+        lsgn_at: (1 + ldat_width + lcnt_width) as usize / 8,
+    }
+}
+
+/// The bytes of a subpacket, if they lie in their precinct.
+fn subpacket(s: &[u8], at: usize, length: usize, end: usize) -> Result<&[u8], Refusal> {
+    require(at + length <= end, Row::Length, at)?;
+    Ok(&s[at..at + length])
+}
+
+/// How many significance flags a line has in a packet that is not raw (B.9, Table C.6).
+fn significance_groups(span: &Span) -> usize {
+    match span.coding.d & 2 {
+        0 => 0,
+        _ => ceil_div(span.groups.len(), SS),
+    }
+}
+
+/// L_sig: the bytes of the significance subpacket (C.5.3.2).
+fn significance_length(spans: &[Span], raw: bool) -> usize {
+    if raw {
+        return 0;
+    }
+    ceil_div(spans.iter().map(significance_groups).sum(), 8)
+}
+
+/// The significance flags of a line. A flag of 1 marks an insignificant group.
+struct Flags<'a> {
+    bytes: &'a [u8],
+    first: usize,
+    on: bool,
+}
+
+impl Flags<'_> {
+    fn insignificant(&self, group: usize) -> bool {
+        let bit = self.first + group;
+        self.on && self.bytes[bit / 8] >> (7 - bit % 8) & 1 == 1
+    }
+}
+
+/// Table C.14.
+fn unpack_raw(bits: &mut Bits, br: u32, counts: &mut [u8]) -> Result<(), Row> {
+    for m in counts {
+        *m = bits.take(br)?;
+    }
+    Ok(())
+}
+
+/// Table C.16. The predictor is T itself, so that θ is 0.
+fn unpack_nopred(bits: &mut Bits, flags: &Flags, limit: u32, t: u32, counts: &mut [u8]) -> Result<(), Row> {
+    for (j, groups) in counts.chunks_mut(SS).enumerate() {
+        if flags.insignificant(j) {
+            groups.fill(t as u8);
+            continue;
+        }
+        for m in groups {
+            *m = in_range(t as i32 + bits.vlc(0, limit)?)?;
+        }
+    }
+    Ok(())
+}
+
+/// Table C.15. `counts` holds the line above and gets the new one.
+fn unpack_vertical(
+    bits: &mut Bits,
+    flags: &Flags,
+    limit: u32,
+    t: u32,
+    t_top: u32,
+    rm: bool,
+    counts: &mut [u8],
+) -> Result<(), Row> {
+    let least = t.max(t_top) as u8;
+    for (j, groups) in counts.chunks_mut(SS).enumerate() {
+        let insignificant = flags.insignificant(j);
+        for m in groups {
+            let m_top = (*m).max(least);
+            *m = if !insignificant {
+                in_range(i32::from(m_top) + bits.vlc(u32::from(m_top) - t, limit)?)?
+            } else if rm {
+                t as u8
+            } else {
+                m_top
+            };
+        }
+    }
+    Ok(())
+}
+
+fn in_range(m: i32) -> Result<u8, Row> {
+    match m {
+        0..=31 => Ok(m as u8),
+        _ => Err(Row::Count),
+    }
+}
+
+/// The sign subpacket (C.5.5, Table C.10): a bit for each index that is not 0.
+fn unpack_signs(indices: &mut [[i32; NG]], signs: &[u8]) -> Result<(), Row> {
+    let mut bits = Bits::new(signs);
+    for group in indices {
+        let present = group.iter().filter(|&&index| index != 0).count() as u32;
+        let mut signs = bits.take(present)?;
+        for index in group.iter_mut().rev().filter(|index| **index != 0) {
+            if signs & 1 == 1 {
+                *index = -*index;
+            }
+            signs >>= 1;
+        }
+    }
+    Ok(())
+}
+
+/// An index from its magnitude of `planes` bits with the sign bit above.
+fn signed(member: u32, planes: u32) -> i32 {
+    let (size, sign) = ((member & ((1 << planes) - 1)) as i32, (member >> planes) as i32);
+    (size ^ -sign) + sign
+}
+
+#[cfg(test)]
+mod tests {
+    use super::*;
+    use crate::a::tests::header;
+
+    #[test]
+    fn header_widths() {
+        assert!(!is_long(&header(10_917, 8, 1, 1, &[(1, 1); 3])));
+        assert!(is_long(&header(8_188, 8, 1, 1, &[(1, 1); 4])));
+    }
+
+    #[test]
+    fn packet_header_fields() {
+        let short = packet_header(&[0x80, 0x03, 0x00, 0x28, 0x07], false);
+        assert!(short.raw && short.lsgn_at == 3);
+        assert_eq!((short.ldat, short.lcnt, short.lsgn), (3, 5, 7));
+        let long = packet_header(&[0x00, 0x00, 0x18, 0x00, 0x02, 0x80, 0x07], true);
+        assert!(!long.raw && long.lsgn_at == 5);
+        assert_eq!((long.ldat, long.lcnt, long.lsgn), (3, 5, 7));
+    }
+
+    #[test]
+    fn truncation_is_clamped() {
+        let weight = a::Weight { gain: 3, priority: 5 };
+        assert_eq!(truncation(10, 5, weight, 4), 7);
+        assert_eq!(truncation(10, 6, weight, 4), 6);
+        assert_eq!(truncation(2, 0, weight, 4), 0);
+        assert_eq!(truncation(31, 0, weight, 4), 15);
+        assert_eq!(truncation(31, 0, weight, 5), 28);
+    }
+}

@@ -1,0 +1,140 @@
+//! Annex E: the inverse wavelet transformation, in place.
+//!
+//! A component has one cell for each coefficient. The lines of its bands stand in the rows where the vertical filters
+//! need them: line y of a band of depth d is row y × 2^d, or y × 2^d + 2^(d−1) where the band is a vertical high-pass.
+//! Within a row the low part stands before the high part, at every horizontal level. So each horizontal step interleaves
+//! the start of a row, and no vertical step moves anything.
+
+use super::b::{ceil_div, Band, Layout};
+
+/// A component: coefficients at first, samples at last.
+pub struct Plane {
+    pub width: usize,
+    pub height: usize,
+    pub cells: Vec<i64>,
+}
+
+/// Components without any coefficients yet.
+pub fn planes(layout: &Layout) -> Vec<Plane> {
+    let plane = |width, height| Plane { width, height, cells: vec![0; width * height] };
+    layout.shapes.iter().map(|shape| plane(shape.width, shape.height)).collect()
+}
+
+impl Plane {
+    /// The cell of a band's coefficient at `x` and `y`; those to the right of it in the same line follow.
+    pub fn cell(&self, band: &Band, x: usize, y: usize) -> usize {
+        let row = if band.high_y { (2 * y + 1) << (band.dy - 1) } else { y << band.dy };
+        let low_part = if band.high_x { ceil_div(self.width, 1 << band.dx) } else { 0 };
+        row * self.width + low_part + x
+    }
+
+    /// Transforms the component (Table E.1).
+    pub fn inverse(&mut self, nlx: u32, nly: u32) {
+        let mut scratch = vec![0; self.width];
+        for y in (0..self.height).step_by(1 << nly) {
+            for dx in (nly + 1..=nlx).rev() {
+                self.join_across(y, dx, &mut scratch);
+            }
+        }
+        for d in (1..=nly).rev() {
+            self.join_level(d, &mut scratch);
+        }
+    }
+
+    /// One level in both directions. Each row is filtered downwards as soon as the rows that it needs are there:
+    /// an even one when the next has been joined across, an odd one after the even one below it.
+    fn join_level(&mut self, d: u32, scratch: &mut [i64]) {
+        let step = 1 << (d - 1);
+        let width = ceil_div(self.width, step);
+        let rows = ceil_div(self.height, step);
+        for k in 0..rows {
+            self.join_across(k * step, d, scratch);
+            if k % 2 == 1 {
+                self.filter_down((k - 1) * step, step, width, even_sample);
+            }
+            if k % 2 == 1 && k > 2 {
+                self.filter_down((k - 2) * step, step, width, odd_sample);
+            }
+        }
+        if rows % 2 == 1 {
+            self.filter_down((rows - 1) * step, step, width, even_sample);
+            self.filter_down((rows - 2) * step, step, width, odd_sample);
+        } else {
+            self.filter_down((rows - 1) * step, step, width, odd_sample);
+        }
+    }
+
+    /// `hor_transform` (E.4, Table E.3) on one row, from depth `dx` to `dx − 1`.
+    fn join_across(&mut self, y: usize, dx: u32, scratch: &mut [i64]) {
+        let width = ceil_div(self.width, 1 << (dx - 1));
+        let row = &mut self.cells[y * self.width..][..width];
+        let (low, high) = row.split_at(ceil_div(width, 2));
+        join_line(low, high, &mut scratch[..width]);
+        row.copy_from_slice(&scratch[..width]);
+    }
+
+    /// A step of `ver_transform` (E.5, Table E.4) on one row, with the rows `step` above and below it.
+    /// By mirroring (E.6), a border row has its only neighbour on both sides.
+    fn filter_down(&mut self, y: usize, step: usize, width: usize, filter: impl Fn(i64, i64, i64) -> i64) {
+        let (before, rest) = self.cells.split_at_mut(y * self.width);
+        let (row, behind) = rest.split_at_mut(self.width);
+        let above = y.checked_sub(step).map(|y| &before[y * self.width..][..width]);
+        let below = behind.get((step - 1) * self.width..).and_then(|rows| rows.get(..width));
+        if let (Some(above), Some(below)) = (above.or(below), below.or(above)) {
+            for (cell, (&above, &below)) in row[..width].iter_mut().zip(above.iter().zip(below)) {
+                *cell = filter(*cell, above, below);
+            }
+        }
+    }
+}
+
+/// Joins the low and high parts of a line (E.6 and E.7, Tables E.5 and E.6). By mirroring, a border repeats the high
+/// coefficient that is next to it, and a last odd sample has the even sample before it also behind it.
+fn join_line(low: &[i64], high: &[i64], out: &mut [i64]) {
+    let mut even = even_sample(low[0], high[0], high[0]);
+    for ((pair, highs), &low) in out.chunks_exact_mut(2).zip(high.windows(2)).zip(&low[1..]) {
+        let next = even_sample(low, highs[0], highs[1]);
+        pair[0] = even;
+        pair[1] = odd_sample(highs[0], even, next);
+        even = next;
+    }
+    let end = high.len() - 1;
+    let last = high[end];
+    let next = if low.len() > high.len() { even_sample(low[end + 1], last, last) } else { even };
+    out[2 * end] = even;
+    out[2 * end + 1] = odd_sample(last, even, next);
+    if let Some(out) = out.get_mut(2 * end + 2) {
+        *out = next;
+    }
+}
+
+fn even_sample(low: i64, before: i64, behind: i64) -> i64 {
+    low - ((before + behind + 2) >> 2)
+}
+
+fn odd_sample(high: i64, before: i64, behind: i64) -> i64 {
+    high + ((before + behind) >> 1)
+}
+
+#[cfg(test)]
+mod tests {
+    use super::*;
+
+    /// Joins low and high coefficients across, and also down in a component of one column over another.
+    fn both_ways(low: &[i64], high: &[i64]) -> Vec<i64> {
+        let mut line = vec![0; low.len() + high.len()];
+        join_line(low, high, &mut line);
+        // A high part of 0 across leaves the low part as it is.
+        let rows = (0..line.len()).flat_map(|y| [if y % 2 == 0 { low[y / 2] } else { high[y / 2] }, 0]);
+        let mut plane = Plane { width: 2, height: line.len(), cells: rows.collect() };
+        plane.inverse(1, 1);
+        assert!(plane.cells.chunks(2).map(|row| row[0]).eq(line.iter().copied()));
+        line
+    }
+
+    #[test]
+    fn checked_figures() {
+        assert_eq!(both_ways(&[10, 12], &[3, -1]), [8, 12, 11, 10]);
+        assert_eq!(both_ways(&[-3, 1], &[-2]), [-2, -2, 2]);
+    }
+}

@@ -1,0 +1,207 @@
+//! Codestreams for tests: sound ones of every mode, spoilt ones, and files that are none.
+//!
+//! The same kind, seed and limits give the same stream.
+
+pub mod setting;
+
+mod bounds;
+mod damage;
+mod forward;
+mod picture;
+mod rng;
+mod stream;
+mod write;
+
+use independent::a::Header;
+use independent::b::Layout;
+use rng::Rng;
+use setting::Limits;
+use stream::Stream;
+use write::{Manner, Source};
+
+#[derive(Clone, Copy, Debug, PartialEq, Eq)]
+pub enum Kind {
+    /// Any indices and counts that the syntax can carry.
+    Syntax,
+    /// Encoded pictures.
+    Picture,
+    /// Encoded coefficients, up to the largest that the bitplane counts can express.
+    Coefficients,
+    /// Spoilt streams.
+    Damaged,
+    /// Pages with one header field at a bound, or one segment in a wrong place.
+    Bounds,
+    /// Files of other formats.
+    Foreign,
+    /// Streams that end with their first slice header, for a few chosen layouts.
+    Header,
+}
+
+pub const KINDS: [(&str, Kind); 7] = [
+    ("syntax", Kind::Syntax),
+    ("picture", Kind::Picture),
+    ("coefficients", Kind::Coefficients),
+    ("damaged", Kind::Damaged),
+    ("bounds", Kind::Bounds),
+    ("foreign", Kind::Foreign),
+    ("header", Kind::Header),
+];
+
+/// A stream with a name that tells how to make it again.
+pub struct Made {
+    pub name: String,
+    pub bytes: Vec<u8>,
+    /// Whether the reader must accept it.
+    pub sound: bool,
+    /// For encoded coefficients: the samples that they give without quantization, by component.
+    pub exact: Option<Vec<Vec<u16>>>,
+}
+
+/// Makes a stream.
+pub fn make(kind: Kind, seed: u64, limits: Limits) -> Made {
+    let mut rng = Rng::new(seed);
+    let (name, bytes, exact) = match kind {
+        Kind::Bounds => {
+            let (what, bytes) = bounds::change(seed as usize);
+            (format!("bounds-{}-{}", seed, what), bytes, None)
+        }
+        Kind::Foreign => {
+            let (what, bytes) = damage::foreign(&mut rng);
+            (format!("foreign-{}-{}", seed, what), bytes, None)
+        }
+        Kind::Header => {
+            let header = setting::chosen(seed as usize);
+            (format!("header-{}", seed), write::header(&mut rng, &header).bytes, None)
+        }
+        Kind::Damaged => {
+            let base = rng.pick(&[Kind::Syntax, Kind::Picture]);
+            let (stream, _) = sound(&mut rng, base, limits);
+            let (what, bytes) = damage::spoil(&mut rng, stream);
+            (format!("damaged-{}-{}", seed, what), bytes, None)
+        }
+        _ => {
+            let (stream, exact) = sound(&mut rng, kind, limits);
+            (format!("{:?}-{}", kind, seed).to_lowercase(), stream.bytes, exact)
+        }
+    };
+    Made { name, bytes, sound: matches!(kind, Kind::Syntax | Kind::Picture | Kind::Coefficients), exact }
+}
+
+/// Makes a sheet of letters to measure with.
+pub fn measured(header: &Header, max_q: usize, seed: u64) -> Vec<u8> {
+    let mut rng = Rng::new(seed);
+    let layout = Layout::new(header);
+    let picture = picture::sheet(&mut rng, header, &layout);
+    let source = Source::Coefficients(forward::coefficients(header, &layout, &picture));
+    write::stream(&mut rng, header, &layout, Manner { max_q, varied: false }, &source).bytes
+}
+
+/// A sound stream, and the samples of its coefficients where it encodes some.
+fn sound(rng: &mut Rng, kind: Kind, limits: Limits) -> (Stream, Option<Vec<Vec<u16>>>) {
+    loop {
+        let header = setting::random(rng, limits);
+        let layout = Layout::new(&header);
+        let bands = match kind {
+            Kind::Syntax => None,
+            Kind::Coefficients => Some(coefficients(rng, &header, &layout)),
+            _ => {
+                let picture = picture::random(rng, &header, &layout);
+                Some(forward::coefficients(&header, &layout, &picture))
+            }
+        };
+        let exact = bands.as_ref().map(|bands| samples(&header, &layout, bands));
+        let source = bands.map_or(Source::Syntax, Source::Coefficients);
+        let max_q = rng.pick(&[0, 0, 3, 8, 31]);
+        let stream = write::stream(rng, &header, &layout, Manner { max_q, varied: true }, &source);
+        if stream.bytes.len() <= limits.bytes {
+            return (stream, exact);
+        }
+    }
+}
+
+/// Coefficients of any size, some of them the largest.
+fn coefficients(rng: &mut Rng, header: &Header, layout: &Layout) -> Vec<Vec<i64>> {
+    let most = (1 << header.br) - 1;
+    let mut planes = rng.between(1, most);
+    let mut one = |_| {
+        if rng.once_in(40) {
+            planes = rng.between(1, most);
+        }
+        let largest = (1i64 << planes) - 1;
+        let size = if rng.once_in(8) { largest } else { rng.next() as i64 & largest };
+        if rng.once_in(2) {
+            -size
+        } else {
+            size
+        }
+    };
+    layout.bands.iter().flatten().map(|band| (0..band.width * band.height).map(&mut one).collect()).collect()
+}
+
+fn samples(header: &Header, layout: &Layout, bands: &[Vec<i64>]) -> Vec<Vec<u16>> {
+    let mut planes = independent::e::planes(layout);
+    for (band, cells) in layout.bands.iter().flatten().zip(bands) {
+        let plane = &mut planes[band.component];
+        for (y, line) in cells.chunks(band.width).enumerate() {
+            let start = plane.cell(band, 0, y);
+            plane.cells[start..start + band.width].iter_mut().zip(line).for_each(|(cell, c)| *cell = c << header.fq);
+        }
+    }
+    independent::reconstruct(header, layout, planes)
+}
+
+#[cfg(test)]
+mod tests {
+    use super::*;
+    use setting::SMALL;
+
+    #[test]
+    fn sound_streams_are_read_and_samples_are_within_their_distance() {
+        for kind in [Kind::Syntax, Kind::Picture, Kind::Coefficients] {
+            for seed in 0..300 {
+                let made = make(kind, seed, SMALL);
+                let page = independent::read(&made.bytes, SMALL.samples).expect(&made.name);
+                for (component, exact) in page.components.iter().zip(made.exact.iter().flatten()) {
+                    let within = |(a, b): (&u16, &u16)| u64::from(a.abs_diff(*b)) <= component.distance;
+                    assert!(component.samples.iter().zip(exact).all(within), "{}", made.name);
+                }
+            }
+        }
+    }
+
+    #[test]
+    fn without_quantization_a_picture_comes_back() {
+        for seed in 0..100 {
+            let mut rng = Rng::new(seed);
+            let mut header = setting::random(&mut rng, SMALL);
+            header.wgt.iter_mut().for_each(|weight| weight.gain = 0);
+            let layout = Layout::new(&header);
+            let picture = picture::random(&mut rng, &header, &layout);
+            let source = Source::Coefficients(forward::coefficients(&header, &layout, &picture));
+            let stream = write::stream(&mut rng, &header, &layout, Manner { max_q: 0, varied: true }, &source);
+            let page = independent::read(&stream.bytes, SMALL.samples).unwrap();
+            assert!(page.components.iter().all(|component| component.distance == 0));
+            if header.fq == 0 {
+                assert!(page.components.iter().zip(&picture).all(|(component, samples)| component.samples == *samples));
+            }
+        }
+    }
+
+    #[test]
+    fn chosen_headers_are_accepted() {
+        for seed in 0..12 {
+            independent::a::header(&make(Kind::Header, seed, SMALL).bytes).unwrap();
+        }
+    }
+
+    #[test]
+    fn most_damage_is_refused_and_all_rows_occur() {
+        let mut rows = [0; 9];
+        for seed in 0..3_000 {
+            let made = make(Kind::Damaged, seed, SMALL);
+            let row = independent::read(&made.bytes, SMALL.samples).map_or_else(|refusal| refusal.row as usize, |_| 0);
+            rows[row] += 1;
+        }
+        assert!(rows[0] < 1_200 && rows[1..5].iter().chain(&rows[6..]).all(|&n| n > 20), "{:?}", rows);
+    }
+}
