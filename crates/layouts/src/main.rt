@@ -85,14 +85,18 @@ fn print_packet(s: Shape, row: usize, column: usize, k: usize, packet: usize) ->
     packet + 1
 }
 
-fn print_precinct(s: Shape, row: usize, column: usize)
-    requires { ⌜ Built s × (row < Npy s) × (column < Npx s) ⌝ }
-{
+fn head_precinct(row: usize, column: usize) {
     text(b"precinct row ");
     number(row);
     text(b" column ");
     number(column);
     text(b"\n");
+}
+
+fn print_precinct(s: Shape, row: usize, column: usize)
+    requires { ⌜ Built s × (row < Npy s) × (column < Npx s) ⌝ }
+{
+    head_precinct(row, column);
     let count = slot_count(s);
     let mut packet = 0;
     let mut k = 0;
@@ -113,14 +117,18 @@ fn print_row(s: Shape, row: usize)
     }
 }
 
-fn print_picture(s: Shape)
-    requires { ⌜ Built s ⌝ }
-{
+fn head_picture(s: Shape) {
     text(b"picture ");
     number(s.wf);
     text(b" by ");
     number(s.hf);
     text(b"\n");
+}
+
+fn print_picture(s: Shape)
+    requires { ⌜ Built s ⌝ }
+{
+    head_picture(s);
     let count = precinct_rows(s);
     let mut row = 0;
     while row < count {
