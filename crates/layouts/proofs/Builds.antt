@@ -1,12 +1,12 @@
 -- A given shape is built: each rule is a test that computes. Assumes nothing.
 use mathlib.Core.Path.{_≡_, refl, sym, ap, _∙_}
 use mathlib.Core.Bool.{Bool, true, false, cond, _&&_}
-use mathlib.Core.List.{List}
+use mathlib.Core.List.{List, [], _∷_}
 use Prim.Native.Nat.{ℕ, zero, suc, _+_, _*_, _%_, _^_, _≤_, _<_}
 use native.Mathlib.Decide.{decLt}
 use native.Mathlib.Omega.{arith}
 use borrow.Author.Tests.{leb-true, ltb-true, eqb-true, lt-ltb, le-ltb}
-use lib.Dec.{leb, ltb, eqb}
+use lib.Dec.{leb, ltb, eqb, lit<}
 use lib.ListN.{length, getD, List·getD-eq-default}
 use Rattle.wavelet.specs.Transform.{low-size}
 use Rattle.layout.specs.declared.Shape.{Shape}
@@ -48,64 +48,78 @@ past-zero n l e i h = pick (decLt i (length l))
     pick (no m) = List·getD-eq-default l 0 (omega arith)
 
 -- every rule, in the order of the record; those on a component for each component
-pub builds : (s : Shape)
-    → leb 1 (s .wf) ≡ true
-    → leb (s .wf) 16384 ≡ true
-    → leb 1 (s .hf) ≡ true
-    → leb (s .hf) 16384 ≡ true
-    → ltb (s .cw) (2 ^ 16) ≡ true
-    → leb 1 (s .hsl) ≡ true
-    → ltb (s .hsl) (2 ^ 16) ≡ true
-    → leb 1 (s .nc) ≡ true
-    → leb (s .nc) 4 ≡ true
-    → leb 1 (s .nlx) ≡ true
-    → leb (s .nlx) 5 ≡ true
-    → leb (s .nly) 2 ≡ true
-    → leb (s .nly) (s .nlx) ≡ true
-    → all (s .nc) (λ i. leb 1 (sx s i)) ≡ true
-    → all (s .nc) (λ i. leb (sx s i) 2) ≡ true
-    → all (s .nc) (λ i. leb 1 (sy s i)) ≡ true
-    → all (s .nc) (λ i. leb (sy s i) (sx s i)) ≡ true
-    → all (s .nc) (λ i. leb (log2 (sy s i)) (s .nly)) ≡ true
-    → all (s .nc) (λ i. all (N′x s i) (λ d. leb 2 (low-size (Wc s i) d))) ≡ true
-    → all (s .nc) (λ i. all (N′y s i) (λ d. leb 2 (low-size (Hc s i) d))) ≡ true
-    → none-past (s .nc) (s .sx) ≡ true
-    → none-past (s .nc) (s .sy) ≡ true
-    → cond (ltb 0 (s .cw)) (leb (largest (sx s) (s .nc) * 2 ^ s .nlx) (s .wf % (8 * s .cw * largest (sx s) (s .nc) * 2 ^ s .nlx))) true ≡ true
-    → Built s
-builds s wide narrow high low column slice short some few level levels downs more across two down less enough rows columns past-x past-y last =
+abbrev pub rules : Shape → List Bool
+rules s =
+    leb 1 (s .wf)
+    ∷ leb (s .wf) 16384
+    ∷ leb 1 (s .hf)
+    ∷ leb (s .hf) 16384
+    ∷ ltb (s .cw) (2 ^ 16)
+    ∷ leb 1 (s .hsl)
+    ∷ ltb (s .hsl) (2 ^ 16)
+    ∷ leb 1 (s .nc)
+    ∷ leb (s .nc) 4
+    ∷ leb 1 (s .nlx)
+    ∷ leb (s .nlx) 5
+    ∷ leb (s .nly) 2
+    ∷ leb (s .nly) (s .nlx)
+    ∷ all (s .nc) (λ i. leb 1 (sx s i))
+    ∷ all (s .nc) (λ i. leb (sx s i) 2)
+    ∷ all (s .nc) (λ i. leb 1 (sy s i))
+    ∷ all (s .nc) (λ i. leb (sy s i) (sx s i))
+    ∷ all (s .nc) (λ i. leb (log2 (sy s i)) (s .nly))
+    ∷ all (s .nc) (λ i. all (N′x s i) (λ d. leb 2 (low-size (Wc s i) d)))
+    ∷ all (s .nc) (λ i. all (N′y s i) (λ d. leb 2 (low-size (Hc s i) d)))
+    ∷ none-past (s .nc) (s .sx)
+    ∷ none-past (s .nc) (s .sy)
+    ∷ cond (ltb 0 (s .cw)) (leb (largest (sx s) (s .nc) * 2 ^ s .nlx) (s .wf % (8 * s .cw * largest (sx s) (s .nc) * 2 ^ s .nlx))) true
+    ∷ []
+
+unfoldable pub every : List Bool → Bool
+every [] = true
+every (t ∷ ts) = t && every ts
+
+every-true : (l : List Bool) → every l ≡ true → (n : ℕ) → n < length l → getD l n false ≡ true
+unfolding every
+every-true [] e n h = absurd (omega arith)
+every-true (t ∷ l) e zero h = both t (every l) e .0
+every-true (t ∷ l) e (suc n) h = every-true l (both t (every l) e .1) n (omega arith)
+
+pub builds : (s : Shape) → every (rules s) ≡ true → Built s
+builds s e =
+    let t : (n : ℕ) → n < 23 → getD (rules s) n false ≡ true = every-true (rules s) e in
     record {
-      wide = leb-true 1 (s .wf) wide;
-      narrow = leb-true (s .wf) 16384 narrow;
-      high = leb-true 1 (s .hf) high;
-      low = leb-true (s .hf) 16384 low;
-      column = ltb-true (s .cw) (2 ^ 16) column;
-      slice = leb-true 1 (s .hsl) slice;
-      short = ltb-true (s .hsl) (2 ^ 16) short;
-      some = leb-true 1 (s .nc) some;
-      few = leb-true (s .nc) 4 few;
-      level = leb-true 1 (s .nlx) level;
-      levels = leb-true (s .nlx) 5 levels;
-      down-levels = leb-true (s .nly) 2 downs;
-      no-more = leb-true (s .nly) (s .nlx) more;
+      wide = leb-true 1 (s .wf) (t 0 (lit< tt));
+      narrow = leb-true (s .wf) 16384 (t 1 (lit< tt));
+      high = leb-true 1 (s .hf) (t 2 (lit< tt));
+      low = leb-true (s .hf) 16384 (t 3 (lit< tt));
+      column = ltb-true (s .cw) (2 ^ 16) (t 4 (lit< tt));
+      slice = leb-true 1 (s .hsl) (t 5 (lit< tt));
+      short = ltb-true (s .hsl) (2 ^ 16) (t 6 (lit< tt));
+      some = leb-true 1 (s .nc) (t 7 (lit< tt));
+      few = leb-true (s .nc) 4 (t 8 (lit< tt));
+      level = leb-true 1 (s .nlx) (t 9 (lit< tt));
+      levels = leb-true (s .nlx) 5 (t 10 (lit< tt));
+      down-levels = leb-true (s .nly) 2 (t 11 (lit< tt));
+      no-more = leb-true (s .nly) (s .nlx) (t 12 (lit< tt));
       sampled =
         λ i h.
           record {
-            across = leb-true 1 (sx s i) (all-true (s .nc) (λ i. leb 1 (sx s i)) across i h);
-            across-two = leb-true (sx s i) 2 (all-true (s .nc) (λ i. leb (sx s i) 2) two i h);
-            down = leb-true 1 (sy s i) (all-true (s .nc) (λ i. leb 1 (sy s i)) down i h);
-            down-less = leb-true (sy s i) (sx s i) (all-true (s .nc) (λ i. leb (sy s i) (sx s i)) less i h);
-            enough = leb-true (log2 (sy s i)) (s .nly) (all-true (s .nc) (λ i. leb (log2 (sy s i)) (s .nly)) enough i h);
+            across = leb-true 1 (sx s i) (all-true (s .nc) (λ i. leb 1 (sx s i)) (t 13 (lit< tt)) i h);
+            across-two = leb-true (sx s i) 2 (all-true (s .nc) (λ i. leb (sx s i) 2) (t 14 (lit< tt)) i h);
+            down = leb-true 1 (sy s i) (all-true (s .nc) (λ i. leb 1 (sy s i)) (t 15 (lit< tt)) i h);
+            down-less = leb-true (sy s i) (sx s i) (all-true (s .nc) (λ i. leb (sy s i) (sx s i)) (t 16 (lit< tt)) i h);
+            enough = leb-true (log2 (sy s i)) (s .nly) (all-true (s .nc) (λ i. leb (log2 (sy s i)) (s .nly)) (t 17 (lit< tt)) i h);
             parts =
               record {
-                no-more = omega (arith, leb-true (s .nly) (s .nlx) more);
-                two-across = λ d k. leb-true 2 (low-size (Wc s i) d) (all-true (N′x s i) (λ d. leb 2 (low-size (Wc s i) d)) (all-true (s .nc) (λ i. all (N′x s i) (λ d. leb 2 (low-size (Wc s i) d))) rows i h) d k);
-                two-down = λ d k. leb-true 2 (low-size (Hc s i) d) (all-true (N′y s i) (λ d. leb 2 (low-size (Hc s i) d)) (all-true (s .nc) (λ i. all (N′y s i) (λ d. leb 2 (low-size (Hc s i) d))) columns i h) d k);
+                no-more = omega (arith, leb-true (s .nly) (s .nlx) (t 12 (lit< tt)));
+                two-across = λ d k. leb-true 2 (low-size (Wc s i) d) (all-true (N′x s i) (λ d. leb 2 (low-size (Wc s i) d)) (all-true (s .nc) (λ i. all (N′x s i) (λ d. leb 2 (low-size (Wc s i) d))) (t 18 (lit< tt)) i h) d k);
+                two-down = λ d k. leb-true 2 (low-size (Hc s i) d) (all-true (N′y s i) (λ d. leb 2 (low-size (Hc s i) d)) (all-true (s .nc) (λ i. all (N′y s i) (λ d. leb 2 (low-size (Hc s i) d))) (t 19 (lit< tt)) i h) d k);
               };
           };
-      absent = λ i h. (past-zero (s .nc) (s .sx) past-x i h, past-zero (s .nc) (s .sy) past-y i h);
+      absent = λ i h. (past-zero (s .nc) (s .sx) (t 20 (lit< tt)) i h, past-zero (s .nc) (s .sy) (t 21 (lit< tt)) i h);
       last-column =
         λ h.
           leb-true (largest (sx s) (s .nc) * 2 ^ s .nlx) (s .wf % (8 * s .cw * largest (sx s) (s .nc) * 2 ^ s .nlx))
-          (ap (λ (b : Bool). cond b (leb (largest (sx s) (s .nc) * 2 ^ s .nlx) (s .wf % (8 * s .cw * largest (sx s) (s .nc) * 2 ^ s .nlx))) true) (sym (lt-ltb 0 (s .cw) h)) ∙ last);
+          (ap (λ (b : Bool). cond b (leb (largest (sx s) (s .nc) * 2 ^ s .nlx) (s .wf % (8 * s .cw * largest (sx s) (s .nc) * 2 ^ s .nlx))) true) (sym (lt-ltb 0 (s .cw) h)) ∙ (t 22 (lit< tt)));
     }
