@@ -1,20 +1,20 @@
 -- What a present line says: its coefficients exist, they lie where the line says, and no packet is empty. Assumes nothing.
-use mathlib.Core.Path.{_≡_, refl, sym, subst, ap, _∙_}
+use mathlib.Core.Path.{_≡_, refl, ap, _∙_}
 use mathlib.Core.Bool.{Bool, true, false, _&&_}
 use mathlib.Core.List.{List, [], _∷_, List·Memᴰ, List·Memᴰ·cases-cons, List·Memᴰ·not-nil}
 use mathlib.Core.Logic.{_⊎_, inl, inr}
-use Prim.Native.Nat.{ℕ, zero, suc, _+_, _*_, _-_, _/_, _%_, _^_, _≤_, _<_}
+use Prim.Native.Nat.{ℕ, suc, _+_, _*_, _-_, _/_, _%_, _^_, _<_}
 use native.Mathlib.Omega.{arith}
 use borrow.Author.Tests.{ltb-true}
 use lib.Dec.{eqb, ltb}
 use lib.ListN.{length}
 use Rattle.layout.specs.declared.Shape.{Shape}
-use Rattle.layout.specs.Bands.{sy, Nβ, Wc, dx, dy, depth, Hb, Wb, exists, band}
+use Rattle.layout.specs.Bands.{sy, Nβ, Wc, dx, dy, depth, Hb, exists, band}
 use Rattle.layout.specs.Built.{Built}
 use Rattle.layout.specs.Precincts.{Npx, first-x, first-y, Wpb, L0}
-use Rattle.layout.specs.Packets.{loop, when, nonempty, Part, packets, included}
-use Rattle.layout.specs.Cells.{area, start, inner, cell}
-use Rattle.layout.specs.Slots.{slots, slot-type, slot-line, candidates, line, line-at, slot}
+use Rattle.layout.specs.Packets.{loop, when, nonempty, packets, included}
+use Rattle.layout.specs.Cells.{area, start, cell}
+use Rattle.layout.specs.Slots.{slot-type, slot-line, candidates, line, line-at, slot}
 use Rattle.layout.proofs.Reaches.{included-is}
 use Rattle.layout.proofs.Cover.{column-member}
 use Rattle.layout.proofs.Cells.{Exists, cell-inside, later-column, line-above}

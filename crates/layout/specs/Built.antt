@@ -1,6 +1,6 @@
 -- What an accepted header says of its shape.
 use mathlib.Core.Path.{_≡_}
-use Prim.Native.Nat.{ℕ, _+_, _*_, _^_, _%_, _≤_, _<_}
+use Prim.Native.Nat.{ℕ, _*_, _^_, _%_, _≤_, _<_}
 use Rattle.wavelet.specs.Bands.{Decomposed}
 use Rattle.layout.specs.declared.Shape.{Shape}
 use Rattle.layout.specs.Bands.{sx, sy, Wc, Hc, N′x, N′y, log2}

@@ -2,7 +2,7 @@
 use mathlib.Core.Path.{_≡_, refl, sym, ap, _∙_}
 use mathlib.Core.Bool.{Bool, true, false, cond, _&&_}
 use mathlib.Core.List.{List, [], _∷_}
-use Prim.Native.Nat.{ℕ, zero, suc, _+_, _*_, _%_, _^_, _≤_, _<_}
+use Prim.Native.Nat.{ℕ, zero, suc, _*_, _%_, _^_, _≤_, _<_}
 use native.Mathlib.Decide.{decLt}
 use native.Mathlib.Omega.{arith}
 use borrow.Author.Tests.{leb-true, ltb-true, eqb-true, lt-ltb, le-ltb}
@@ -12,7 +12,7 @@ use Rattle.wavelet.specs.Transform.{low-size}
 use Rattle.layout.specs.declared.Shape.{Shape}
 use Rattle.layout.specs.Bands.{sx, sy, Wc, Hc, N′x, N′y, log2}
 use Rattle.layout.specs.Precincts.{largest}
-use Rattle.layout.specs.Built.{Built, Sampled}
+use Rattle.layout.specs.Built.{Built}
 
 -- a test at every number below n
 unfoldable pub all : ℕ → (ℕ → Bool) → Bool
@@ -103,7 +103,7 @@ builds s e =
       down-levels = leb-true (s .nly) 2 (t 11 (lit< tt));
       no-more = leb-true (s .nly) (s .nlx) (t 12 (lit< tt));
       sampled =
-        λ i h.
+          λ i h.
           record {
             across = leb-true 1 (sx s i) (all-true (s .nc) (λ i. leb 1 (sx s i)) (t 13 (lit< tt)) i h);
             across-two = leb-true (sx s i) 2 (all-true (s .nc) (λ i. leb (sx s i) 2) (t 14 (lit< tt)) i h);
@@ -111,15 +111,15 @@ builds s e =
             down-less = leb-true (sy s i) (sx s i) (all-true (s .nc) (λ i. leb (sy s i) (sx s i)) (t 16 (lit< tt)) i h);
             enough = leb-true (log2 (sy s i)) (s .nly) (all-true (s .nc) (λ i. leb (log2 (sy s i)) (s .nly)) (t 17 (lit< tt)) i h);
             parts =
-              record {
-                no-more = omega (arith, leb-true (s .nly) (s .nlx) (t 12 (lit< tt)));
-                two-across = λ d k. leb-true 2 (low-size (Wc s i) d) (all-true (N′x s i) (λ d. leb 2 (low-size (Wc s i) d)) (all-true (s .nc) (λ i. all (N′x s i) (λ d. leb 2 (low-size (Wc s i) d))) (t 18 (lit< tt)) i h) d k);
-                two-down = λ d k. leb-true 2 (low-size (Hc s i) d) (all-true (N′y s i) (λ d. leb 2 (low-size (Hc s i) d)) (all-true (s .nc) (λ i. all (N′y s i) (λ d. leb 2 (low-size (Hc s i) d))) (t 19 (lit< tt)) i h) d k);
-              };
+                record {
+                  no-more = omega (arith, leb-true (s .nly) (s .nlx) (t 12 (lit< tt)));
+                  two-across = λ d k. leb-true 2 (low-size (Wc s i) d) (all-true (N′x s i) (λ d. leb 2 (low-size (Wc s i) d)) (all-true (s .nc) (λ i. all (N′x s i) (λ d. leb 2 (low-size (Wc s i) d))) (t 18 (lit< tt)) i h) d k);
+                  two-down = λ d k. leb-true 2 (low-size (Hc s i) d) (all-true (N′y s i) (λ d. leb 2 (low-size (Hc s i) d)) (all-true (s .nc) (λ i. all (N′y s i) (λ d. leb 2 (low-size (Hc s i) d))) (t 19 (lit< tt)) i h) d k);
+                };
           };
       absent = λ i h. (past-zero (s .nc) (s .sx) (t 20 (lit< tt)) i h, past-zero (s .nc) (s .sy) (t 21 (lit< tt)) i h);
       last-column =
-        λ h.
+          λ h.
           leb-true (largest (sx s) (s .nc) * 2 ^ s .nlx) (s .wf % (8 * s .cw * largest (sx s) (s .nc) * 2 ^ s .nlx))
           (ap (λ (b : Bool). cond b (leb (largest (sx s) (s .nc) * 2 ^ s .nlx) (s .wf % (8 * s .cw * largest (sx s) (s .nc) * 2 ^ s .nlx))) true) (sym (lt-ltb 0 (s .cw) h)) ∙ (t 22 (lit< tt)));
     }

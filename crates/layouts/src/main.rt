@@ -1,8 +1,12 @@
 // Prints, for a dozen pictures, the packets of every precinct, and for each packet the lines in it and where they lie. What it must print (`stdout`) was
 // worked out by the independent decoder from headers of the same pictures.
-use layout::lines::{candidate_count, line_at, slot_count};
-use layout::precincts::{precinct_columns, precinct_rows};
-use layout::{Line, Shape};
+use layout::Line;
+use layout::Shape;
+use layout::lines::candidate_count;
+use layout::lines::line_at;
+use layout::lines::slot_count;
+use layout::precincts::precinct_columns;
+use layout::precincts::precinct_rows;
 use libc::STDOUT_FILENO;
 ghost use Prim.Native.Nat.{_+_, _<_, _≤_};
 ghost use Rattle.layout.specs.Built.{Built};
@@ -139,16 +143,136 @@ fn print_picture(s: Shape)
 
 // Pictures at full sampling, 4:2:2, 4:2:0 and mixed, of one to four components, with and without columns, and of heights that cut the last precinct.
 fn main() {
-    print_picture(Shape { wf: 37, hf: 9, cw: 0, hsl: 2, nc: 3, nlx: 5, nly: 0, sx: [1, 1, 1, 0], sy: [1, 1, 1, 0] });
-    print_picture(Shape { wf: 37, hf: 9, cw: 0, hsl: 2, nc: 3, nlx: 5, nly: 1, sx: [1, 1, 1, 0], sy: [1, 1, 1, 0] });
-    print_picture(Shape { wf: 37, hf: 9, cw: 0, hsl: 2, nc: 3, nlx: 5, nly: 2, sx: [1, 1, 1, 0], sy: [1, 1, 1, 0] });
-    print_picture(Shape { wf: 70, hf: 6, cw: 0, hsl: 1, nc: 3, nlx: 5, nly: 2, sx: [1, 2, 2, 0], sy: [1, 1, 1, 0] });
-    print_picture(Shape { wf: 70, hf: 5, cw: 0, hsl: 1, nc: 3, nlx: 5, nly: 1, sx: [1, 2, 2, 0], sy: [1, 2, 2, 0] });
-    print_picture(Shape { wf: 70, hf: 13, cw: 0, hsl: 2, nc: 3, nlx: 5, nly: 2, sx: [1, 2, 2, 0], sy: [1, 2, 2, 0] });
-    print_picture(Shape { wf: 39, hf: 11, cw: 1, hsl: 1, nc: 1, nlx: 1, nly: 1, sx: [1, 0, 0, 0], sy: [1, 0, 0, 0] });
-    print_picture(Shape { wf: 77, hf: 7, cw: 1, hsl: 3, nc: 2, nlx: 2, nly: 2, sx: [1, 1, 0, 0], sy: [1, 1, 0, 0] });
-    print_picture(Shape { wf: 150, hf: 10, cw: 1, hsl: 2, nc: 4, nlx: 3, nly: 2, sx: [1, 2, 2, 1], sy: [1, 1, 1, 1] });
-    print_picture(Shape { wf: 203, hf: 14, cw: 2, hsl: 9, nc: 4, nlx: 2, nly: 2, sx: [1, 2, 2, 1], sy: [1, 2, 2, 1] });
-    print_picture(Shape { wf: 101, hf: 15, cw: 1, hsl: 4, nc: 4, nlx: 1, nly: 1, sx: [1, 2, 2, 1], sy: [1, 1, 2, 1] });
-    print_picture(Shape { wf: 2, hf: 3, cw: 0, hsl: 1, nc: 4, nlx: 1, nly: 1, sx: [1, 1, 1, 1], sy: [1, 1, 1, 1] });
+    print_picture(Shape {
+        wf: 37,
+        hf: 9,
+        cw: 0,
+        hsl: 2,
+        nc: 3,
+        nlx: 5,
+        nly: 0,
+        sx: [1, 1, 1, 0],
+        sy: [1, 1, 1, 0],
+    });
+    print_picture(Shape {
+        wf: 37,
+        hf: 9,
+        cw: 0,
+        hsl: 2,
+        nc: 3,
+        nlx: 5,
+        nly: 1,
+        sx: [1, 1, 1, 0],
+        sy: [1, 1, 1, 0],
+    });
+    print_picture(Shape {
+        wf: 37,
+        hf: 9,
+        cw: 0,
+        hsl: 2,
+        nc: 3,
+        nlx: 5,
+        nly: 2,
+        sx: [1, 1, 1, 0],
+        sy: [1, 1, 1, 0],
+    });
+    print_picture(Shape {
+        wf: 70,
+        hf: 6,
+        cw: 0,
+        hsl: 1,
+        nc: 3,
+        nlx: 5,
+        nly: 2,
+        sx: [1, 2, 2, 0],
+        sy: [1, 1, 1, 0],
+    });
+    print_picture(Shape {
+        wf: 70,
+        hf: 5,
+        cw: 0,
+        hsl: 1,
+        nc: 3,
+        nlx: 5,
+        nly: 1,
+        sx: [1, 2, 2, 0],
+        sy: [1, 2, 2, 0],
+    });
+    print_picture(Shape {
+        wf: 70,
+        hf: 13,
+        cw: 0,
+        hsl: 2,
+        nc: 3,
+        nlx: 5,
+        nly: 2,
+        sx: [1, 2, 2, 0],
+        sy: [1, 2, 2, 0],
+    });
+    print_picture(Shape {
+        wf: 39,
+        hf: 11,
+        cw: 1,
+        hsl: 1,
+        nc: 1,
+        nlx: 1,
+        nly: 1,
+        sx: [1, 0, 0, 0],
+        sy: [1, 0, 0, 0],
+    });
+    print_picture(Shape {
+        wf: 77,
+        hf: 7,
+        cw: 1,
+        hsl: 3,
+        nc: 2,
+        nlx: 2,
+        nly: 2,
+        sx: [1, 1, 0, 0],
+        sy: [1, 1, 0, 0],
+    });
+    print_picture(Shape {
+        wf: 150,
+        hf: 10,
+        cw: 1,
+        hsl: 2,
+        nc: 4,
+        nlx: 3,
+        nly: 2,
+        sx: [1, 2, 2, 1],
+        sy: [1, 1, 1, 1],
+    });
+    print_picture(Shape {
+        wf: 203,
+        hf: 14,
+        cw: 2,
+        hsl: 9,
+        nc: 4,
+        nlx: 2,
+        nly: 2,
+        sx: [1, 2, 2, 1],
+        sy: [1, 2, 2, 1],
+    });
+    print_picture(Shape {
+        wf: 101,
+        hf: 15,
+        cw: 1,
+        hsl: 4,
+        nc: 4,
+        nlx: 1,
+        nly: 1,
+        sx: [1, 2, 2, 1],
+        sy: [1, 1, 2, 1],
+    });
+    print_picture(Shape {
+        wf: 2,
+        hf: 3,
+        cw: 0,
+        hsl: 1,
+        nc: 4,
+        nlx: 1,
+        nly: 1,
+        sx: [1, 1, 1, 1],
+        sy: [1, 1, 1, 1],
+    });
 }
