@@ -91,7 +91,7 @@ three-steps b = omega arith
 -- ---- the first packet: its bands are low-pass down, and have a line in every row of precincts
 
 module _ (s : Shape) (β : ℕ) (f : β < β₁ s) where
-  first-letters : (τy (kind s β) ≡ 0) × (dy s β ≡ s .nly)
+  pub first-letters : (τy (kind s β) ≡ 0) × (dy s β ≡ s .nly)
   unfolding kind dy
   first-letters = by (way (s .nlx) (s .nly) β)
     where

@@ -25,6 +25,11 @@ turn-parts (suc (suc zero)) (suc (suc (suc zero))) h a b = (omega arith, omega a
 turn-parts (suc (suc zero)) (suc (suc (suc (suc m)))) h a b = absurd (omega arith)
 turn-parts (suc (suc (suc n))) m h a b = absurd (omega arith)
 
+-- the depth of a filter type of the levels of both directions
+pub dy-level : (s : Shape) (β : ℕ) → first-types (s .nlx) (s .nly) ≤ β → dy s β ≡ s .nly - (β - first-types (s .nlx) (s .nly)) / 3
+unfolding dy
+dy-level s β h = type-both (s .nlx) (s .nly) β h .down
+
 module _ (s : Shape) (built : Built s) where
   pub power-most : 2 ^ s .nly ≤ 4
   power-most = pow-mono {i = s .nly} {j = 2} (built .down-levels)
