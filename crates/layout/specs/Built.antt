@@ -15,7 +15,7 @@ pub record Sampled (s : Shape) (i : ℕ) : Type 0 where
   pub enough : log2 (sy s i) ≤ s .nly
   pub parts : Decomposed (Wc s i) (Hc s i) (N′x s i) (N′y s i)
 
--- Tables A.7 and A.9 within the built range
+-- Tables A.7 and A.15 within the built range
 pub record Built (s : Shape) : Type 0 where
   pub wide : 1 ≤ s .wf
   pub narrow : s .wf ≤ 16384
