@@ -2,3 +2,5 @@ pub mod Until
 pub mod Lists
 pub mod Steps
 pub mod Whole
+pub mod Ranges
+pub mod Accepted

@@ -1,11 +1,12 @@
 -- An array that a loop fills with the numbers of an index. Assumes nothing.
-use Prim.Native.Nat.{ℕ, suc, _+_, _≤_, _<_}
+use Prim.Native.Nat.{ℕ, zero, suc, _+_, _≤_, _<_}
 use mathlib.Core.Path.{_≡_, refl, sym, ap, _∙_}
 use mathlib.Core.List.{List, [], _∷_, _++_}
+use native.Mathlib.Decide.{decLt}
 use native.Mathlib.Numerals.{add-one}
 use native.Mathlib.Omega.{arith}
-use lib.ListN.{length, take, set, length-set}
-use lib.Seq.{take-all, take-suc-set}
+use lib.ListN.{length, take, getD, set, length-set, length-append, List·getD-append, List·getD-eq-default}
+use lib.Seq.{take-all, take-suc-set, getD-append-seam}
 use Rattle.header.specs.Header.{listed}
 
 -- the first b of n elements are those of f
@@ -27,3 +28,25 @@ pub filled-all : {n b : ℕ} {f : ℕ → ℕ} {xs : List ℕ} → Filled n b f 
 filled-all {n} {b} {f} {xs} x e =
     let l : length xs ≤ b = omega (arith, x .long) in
     sym (take-all b xs l) ∙ x .same ∙ (λ i. listed (e i) f)
+
+-- ---- the numbers of an index
+
+pub listed-length : (n : ℕ) (f : ℕ → ℕ) → length (listed n f) ≡ n
+unfolding listed
+listed-length zero f = refl
+listed-length (suc n) f = simp (length-append, listed-length n f) (omega arith)
+
+pub listed-at : (n : ℕ) (f : ℕ → ℕ) (b : ℕ) → b < n → getD (listed n f) b 0 ≡ f b
+unfolding listed
+listed-at zero f b h = absurd (omega arith)
+listed-at (suc n) f b h = pick (decLt b n) (listed-at n f b)
+  where
+    pick : Dec (b < n) → (b < n → getD (listed n f) b 0 ≡ f b) → getD (listed n f ++ (f n ∷ [])) b 0 ≡ f b
+    pick (yes l) before = List·getD-append (listed n f) (f n ∷ []) 0 b (omega (arith, listed-length n f)) ∙ before l
+    pick (no l) before =
+        let q : b ≡ length (listed n f) = omega (arith, listed-length n f) in
+        let r : n ≡ b = omega arith in
+        (λ i. getD (listed n f ++ (f n ∷ [])) (q i) 0) ∙ getD-append-seam (listed n f) (f n) [] 0 ∙ (λ i. f (r i))
+
+pub listed-past : (n : ℕ) (f : ℕ → ℕ) (b : ℕ) → n ≤ b → getD (listed n f) b 0 ≡ 0
+listed-past n f b h = List·getD-eq-default (listed n f) 0 (omega (arith, listed-length n f))

@@ -1,5 +1,5 @@
 // Annex B of the standard: bands, precincts, the lines of each packet, and where each coefficient lies.
-pub mod bands;
+mod bands;
 pub mod headers;
 pub mod lines;
 mod numbers;

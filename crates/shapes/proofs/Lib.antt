@@ -1,3 +1,1 @@
--- What is accepted is built.
-pub mod Tables
 pub mod Accepted

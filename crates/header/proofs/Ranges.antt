@@ -1,0 +1,172 @@
+-- What accepted tables say of their fields. Assumes nothing.
+use Prim.Native.Nat.{ℕ, zero, suc, _+_, _*_, _-_, _^_, _≤_, _<_, zero-le, max}
+use mathlib.Core.Path.{_≡_, refl, sym, ap, subst, _∙_}
+use mathlib.Core.Bool.{Bool, true, false, _&&_, _||_, cond}
+use mathlib.Core.List.{List, [], _∷_, _++_}
+use native.Mathlib.Decide.{decLt}
+use native.Mathlib.Numerals.{add-one}
+use native.Mathlib.Omega.{arith}
+use borrow.Author.Tests.{lt-ltb, le-ltb, ltb-true, eq-eqb}
+use lib.Dec.{eqb, ltb, lit≤}
+use lib.ListN.{length, getD}
+use Rattle.whole.specs.Numbers.{ceilDiv}
+use Rattle.rows.specs.Rows.{first, each}
+use Rattle.rows.specs.declared.Field.the-variants.{Sx, Sy}
+use Rattle.rows.specs.declared.Verdict.the-variants.{Fine}
+use Rattle.rows.proofs.Tables.{append-fine, each-fine, held}
+use Rattle.picture.specs.Picture.{Built}
+use Rattle.picture.specs.declared.picture.Picture.{Picture}
+use Rattle.segments.specs.Bands.{samples, levelsDown, bands, existing}
+use Rattle.segments.specs.Components.{sxAt, componentAt, widest, depthChecks, levelChecks, filterChecks, columnUnit, lastColumn, leastColumn, sxChecks, acrossChecks, syChecks, downChecks, componentChecks, componentRow, componentsChecks}
+use Rattle.segments.specs.Weights.{bandIn, bandsIn, gainAt, gainRow, gainChecks}
+use Rattle.segments.specs.declared.components.Component.{Component}
+use Rattle.segments.proofs.NumberLaws.{cond-le}
+use Rattle.header.specs.Header.{four, listed, componentOf, noComponent, bandIs, gainOf, largest, Sampled}
+use Rattle.header.proofs.Lists.{listed-at, listed-past}
+
+-- ---- a component
+
+module _ (h : Picture) (p c m : ℕ) (k : Component) (e : first (componentChecks h p c m k) ≡ Fine) where
+  abbrev place : ℕ
+  place = p + 5 + 2 * c
+
+  abbrev wide : ℕ
+  wide = samples (h .wf) (k .sx)
+
+  abbrev high : ℕ
+  high = samples (h .hf) (k .sy)
+
+  abbrev levels : ℕ
+  levels = levelsDown (h .nly) (k .sy)
+
+  component-parts : (first (depthChecks h (p + 4 + 2 * c) k) ≡ Fine) × (first (acrossChecks h place c m k) ≡ Fine) × (first (downChecks h place k) ≡ Fine)
+  component-parts =
+      let later = acrossChecks h place c m k ++ downChecks h place k in
+      let d = append-fine (depthChecks h (p + 4 + 2 * c) k) later e in
+      let a = append-fine (acrossChecks h place c m k) (downChecks h place k) (d .1) in
+      (d .0, a .0, a .1)
+
+  across-parts : (first (sxChecks h place c m k) ≡ Fine) × (first (filterChecks Sx place wide (h .nlx)) ≡ Fine)
+  across-parts = append-fine (sxChecks h place c m k) (filterChecks Sx place wide (h .nlx)) (component-parts .1)
+
+  down-parts : (first (syChecks h place k) ≡ Fine) × (first (filterChecks Sy place high levels) ≡ Fine)
+  down-parts =
+      append-fine (syChecks h place k) (filterChecks Sy place high levels) (component-parts .2)
+
+  sampled : Sampled h (k .depth) (k .sx) (k .sy)
+  sampled =
+      let d = held (depthChecks h (p + 4 + 2 * c) k) (component-parts .0) in
+      let x = held (sxChecks h place c m k) (across-parts .0) in
+      let y = held (syChecks h place k) (down-parts .0) in
+      let most = cond-le (eqb c 1 || eqb c 2) 2 1 2 (lit≤ tt) (lit≤ tt) refl in
+      record {
+        depth = (d .0 .least, d .0 .most);
+        exact = λ f. let b = eq-eqb (h .fq) 0 f in omega (arith, rw b at (d .1 .0 .least), rw b at (d .1 .0 .most));
+        sx = (x .0 .least, omega (arith, x .0 .most, most));
+        sy = (y .0 .least, y .0 .most);
+        colour = λ f. let b = eq-eqb (h .cpih) 1 f in omega (arith, x .0 .least, rw b at (x .1 .0 .most));
+        levels = y .1 .1 .0 .most;
+        across = λ n l. held (levelChecks Sx place wide n) (each-fine (h .nlx) (levelChecks Sx place wide) (across-parts .1) n l) .0 .least;
+        down = λ n l. held (levelChecks Sy place high n) (each-fine levels (levelChecks Sy place high) (down-parts .1) n l) .0 .least;
+      }
+
+  -- the last component
+  last-column : c + 1 ≡ h .nc → 0 < h .cw → columnUnit h m ≤ lastColumn h m
+  last-column l w =
+      let x = held (sxChecks h place c m k) (across-parts .0) in
+      rw (eq-eqb (c + 1) (h .nc) l, lt-ltb 0 (h .cw) w) at (x .1 .1 .0 .least)
+
+-- ---- by component
+
+pub four-at : (f : ℕ → ℕ) (c : ℕ) → c < 4 → getD (four f) c 0 ≡ f c
+four-at f zero h = refl
+four-at f (suc zero) h = refl
+four-at f (suc (suc zero)) h = refl
+four-at f (suc (suc (suc zero))) h = refl
+four-at f (suc (suc (suc (suc c)))) h = absurd (omega arith)
+
+module _ (s : List ℕ) (h : Picture) (cdt : ℕ) (x : Built h) where
+  component-is : (c : ℕ) → c < h .nc → componentOf s h cdt c ≡ componentAt s cdt c
+  component-is c l = rw (lt-ltb c (h .nc) l)
+
+  module _ (e : first (componentsChecks s h cdt) ≡ Fine) where
+    pub sampled-at : (c : ℕ) → c < h .nc →
+        Sampled h (getD (four (λ c. componentOf s h cdt c .depth)) c 0) (getD (four (λ c. componentOf s h cdt c .sx)) c 0) (getD (four (λ c. componentOf s h cdt c .sy)) c 0)
+    sampled-at c l =
+        let k = component-is c l in
+        let few : c < 4 = omega (arith, x .nc .1) in
+        let b = four-at (λ c. componentOf s h cdt c .depth) c few ∙ (λ i. k i .depth) in
+        let a = four-at (λ c. componentOf s h cdt c .sx) c few ∙ (λ i. k i .sx) in
+        let d = four-at (λ c. componentOf s h cdt c .sy) c few ∙ (λ i. k i .sy) in
+        rw (b, a, d) (sampled h cdt c (widest s cdt (h .nc)) (componentAt s cdt c) (each-fine (h .nc) (componentRow s h cdt) e c l))
+
+-- the largest sx, of all four entries and of the components
+max-none : (m : ℕ) → max m 0 ≡ m
+max-none m = omega arith
+
+widest-is : (s : List ℕ) (cdt nc : ℕ) → 1 ≤ nc → nc ≤ 4 → (f : ℕ → ℕ) → ((c : ℕ) → c < nc → f c ≡ sxAt s cdt c) → ((c : ℕ) → nc ≤ c → f c ≡ 0) →
+    largest 0 (four f) ≡ widest s cdt nc
+unfolding widest
+widest-is s cdt zero l m f in-table past = absurd (omega arith)
+widest-is s cdt (suc zero) l m f in-table past = rw (in-table 0 (omega arith), past 1 (omega arith), past 2 (omega arith), past 3 (omega arith), max-none, max-none, max-none)
+widest-is s cdt (suc (suc zero)) l m f in-table past =
+    rw (in-table 0 (omega arith), in-table 1 (omega arith), past 2 (omega arith), past 3 (omega arith), max-none, max-none)
+widest-is s cdt (suc (suc (suc zero))) l m f in-table past =
+    rw (in-table 0 (omega arith), in-table 1 (omega arith), in-table 2 (omega arith), past 3 (omega arith), max-none)
+widest-is s cdt (suc (suc (suc (suc zero)))) l m f in-table past =
+    rw (in-table 0 (omega arith), in-table 1 (omega arith), in-table 2 (omega arith), in-table 3 (omega arith))
+widest-is s cdt (suc (suc (suc (suc (suc n))))) l m f in-table past = absurd (omega arith)
+
+module _ (s : List ℕ) (h : Picture) (cdt : ℕ) (x : Built h) (e : first (componentsChecks s h cdt) ≡ Fine) where
+  pub columns-at : 0 < h .cw →
+      columnUnit h (largest 0 (four (λ c. componentOf s h cdt c .sx))) ≤ lastColumn h (largest 0 (four (λ c. componentOf s h cdt c .sx)))
+  columns-at w =
+      let m = widest s cdt (h .nc) in
+      let c = h .nc - 1 in
+      let one : c + 1 ≡ h .nc = omega (arith, x .nc .0) in
+      let past : (c : ℕ) → h .nc ≤ c → componentOf s h cdt c .sx ≡ 0 = λ c l. rw (le-ltb c (h .nc) l) in
+      let g = widest-is s cdt (h .nc) (x .nc .0) (x .nc .1) (λ c. componentOf s h cdt c .sx) (λ c l i. component-is s h cdt x c l i .sx) past in
+      rw g (last-column h cdt c m (componentAt s cdt c) (each-fine (h .nc) (componentRow s h cdt) e c (omega arith)) one w)
+
+-- ---- by band
+
+-- the existing bands before one that exists are fewer than all
+existing-lt : (is : ℕ → Bool) (b n : ℕ) → is b ≡ true → b < n → existing is b < existing is n
+unfolding existing
+existing-lt is b zero e l = absurd (omega arith)
+existing-lt is b (suc n) e l = pick (decLt b n) (existing-lt is b n e)
+  where
+    pick : Dec (b < n) → (b < n → existing is b < existing is n) → existing is b < existing is n + cond (is n) 1 0
+    pick (yes m) before = omega (arith, before m)
+    pick (no m) before =
+        let q : b ≡ n = omega arith in
+        rw (← q, e) (omega arith)
+
+-- bands of the picture alone are counted
+existing-same : (is : ℕ → Bool) (all b : ℕ) → b ≤ all → existing (λ n. ltb n all && is n) b ≡ existing is b
+unfolding existing
+existing-same is all zero l = refl
+existing-same is all (suc b) l = rw (existing-same is all b (omega arith), lt-ltb b all (omega arith))
+
+module _ (s : List ℕ) (h : Picture) (cdt wgt : ℕ) (e : first (gainChecks s wgt (bandsIn s h cdt)) ≡ Fine) where
+  abbrev all : ℕ
+  all = bands (h .nc) (h .nlx) (h .nly)
+
+  gain-le : (b : ℕ) → gainOf s h cdt wgt b ≤ 15
+  gain-le b = pick (ltb b all) refl (bandIn s h cdt b) refl
+    where
+      pick : (t : Bool) → t ≡ ltb b all → (u : Bool) → u ≡ bandIn s h cdt b → cond (t && u) (gainAt s wgt (existing (bandIs s h cdt) b)) 0 ≤ 15
+      pick true p true q =
+          let l = ltb-true b all (sym p) in
+          let k = existing-same (bandIn s h cdt) all b (omega arith) in
+          let few : existing (bandIs s h cdt) b < bandsIn s h cdt = omega (arith, k, existing-lt (bandIn s h cdt) b all (sym q) l) in
+          held (gainRow s wgt (existing (bandIs s h cdt) b)) (each-fine (bandsIn s h cdt) (gainRow s wgt) e (existing (bandIs s h cdt) b) few) .0 .most
+      pick true p false q = zero-le
+      pick false p u q = zero-le
+
+  pub gains-at : (b : ℕ) → getD (listed 40 (gainOf s h cdt wgt)) b 0 ≤ 15
+  gains-at b = pick (decLt b 40)
+    where
+      pick : Dec (b < 40) → getD (listed 40 (gainOf s h cdt wgt)) b 0 ≤ 15
+      pick (yes l) = rw (listed-at 40 (gainOf s h cdt wgt) b l) (gain-le b)
+      pick (no l) = rw (listed-past 40 (gainOf s h cdt wgt) b (omega arith)) zero-le
