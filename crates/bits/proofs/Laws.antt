@@ -5,22 +5,23 @@ use mathlib.Core.List.{List}
 use native.Mathlib.Omega.{arith}
 use native.Mathlib.Nat.{add-zero, add-suc, add-assoc, mul-assoc, pow-suc, zero-div, div-div-eq-div-mul, lt-of-lt-of-le}
 use lib.Dec.{lit<, lit≤}
-use lib.ListN.{length, getD, take, drop, List·getD-eq-default}
-use lib.Seq.{getD-drop, getD-take}
+use lib.ListN.{length, getD, List·getD-eq-default}
 use lib.Pow.{pow-mono, high, low}
 use Rattle.bits.specs.Fields.{bitAt, field, IsField}
 
 -- ---- u(n) by itself
 
 module _ (s : List ℕ) where
-  -- u(n) is below 2 ^ n, and so below any power from there on
+  -- u(n) is below 2 ^ n
   pub field-lt : (i n : ℕ) → field s i n < 2 ^ n
   unfolding field bitAt
   field-lt i zero = lit< tt
   field-lt i (suc n) = rw pow-suc (omega (arith, field-lt i n))
 
-  pub field-within : (i : ℕ) {n m : ℕ} → n ≤ m → field s i n < 2 ^ m
-  field-within i {n} h = lt-of-lt-of-le (field-lt i n) (pow-mono h)
+  -- u(1) is the bit
+  pub field-one : (i : ℕ) → field s i 1 ≡ bitAt s i
+  unfolding field
+  field-one i = rw add-zero (omega arith)
 
   -- u(n + m) is u(n) and then u(m)
   pub field-join : (i n m : ℕ) → field s i (n + m) ≡ field s i n * 2 ^ m + field s (i + n) m
@@ -59,31 +60,20 @@ module _ (s : List ℕ) where
   pub field-byte : (at : ℕ) → getD s at 0 < 256 → field s (8 * at) 8 ≡ getD s at 0
   field-byte at b = first-bits at 8 (lit≤ tt) b ∙ omega arith
 
-  -- in a part of the stretch that starts at byte a, and in its first e bytes
-  pub field-drop : (a i n : ℕ) → field (drop a s) i n ≡ field s (8 * a + i) n
-  unfolding field bitAt
-  field-drop a i zero = refl
-  field-drop a i (suc n) =
-      let q : (8 * a + i + n) / 8 ≡ a + (i + n) / 8 = omega arith in
-      let r : (8 * a + i + n) % 8 ≡ (i + n) % 8 = omega arith in
-      rw (field-drop a i n, getD-drop, q, r)
-
-  pub field-take : (e i n : ℕ) → i + n ≤ 8 * e → field (take e s) i n ≡ field s i n
-  unfolding field bitAt
-  field-take e i zero h = refl
-  field-take e i (suc n) h =
-      let b : (i + n) / 8 < e = omega arith in
-      rw (field-take e i n (omega arith), getD-take)
-
 -- ---- the same of a reader's answer
 
 module _ {s : List ℕ} where
-  is-field : {i n r : ℕ} → r ≡ field s i n → IsField s i n r
+  pub is-field : {i n r : ℕ} → r ≡ field s i n → IsField s i n r
   is-field {i} {n} e = record { value = e; below = rw e (field-lt s i n) }
 
   pub is-byte : (at : ℕ) → getD s at 0 < 256 → IsField s (8 * at) 8 (getD s at 0)
   is-byte at b = is-field (sym (field-byte s at b))
 
+  -- at a bit that is the same
+  pub is-moved : {i j n r : ℕ} → IsField s i n r → j ≡ i → IsField s j n r
+  is-moved x e = rw e x
+
+  -- below any power from its own on
   pub is-within : {i n m r : ℕ} → IsField s i n r → n ≤ m → r < 2 ^ m
   is-within x h = lt-of-lt-of-le (x .below) (pow-mono h)
 
@@ -94,6 +84,7 @@ module _ {s : List ℕ} where
   pub is-past : (at n : ℕ) → length s ≤ at → IsField s (8 * at) n 0
   is-past at n h = is-field (sym (field-past s (8 * at) n (omega arith)))
 
+  -- two fields of which one begins where the other ends
   pub is-joined : {i n j m w a b : ℕ} → IsField s i n a → IsField s j m b → j ≡ i + n → w ≡ n + m → IsField s i w (a * 2 ^ m + b)
   is-joined {i} {n} {j} {m} x y e f = is-field (rw (f, field-join s i n m, ← e, ← x .value, ← y .value))
 

@@ -1,2 +1,3 @@
--- Laws of fields, each once over the width.
+-- Laws of fields, each once over the width, and of packet headers, each once over their widths.
 pub mod Laws
+pub mod Headers
