@@ -1,41 +1,40 @@
 -- An accepted header: its tables were accepted, it ends at a slice marker, and its fields are in their ranges. Assumes nothing.
 use Prim.Native.Nat.{ℕ, zero, suc, _+_, _*_, _-_, _≤_, _<_, zero-le}
-use mathlib.Core.Path.{_≡_, refl, sym, subst, _∙_}
 use mathlib.Core.Bool.{Bool, true, false, cond}
-use mathlib.Core.List.{List, [], _∷_, _++_}
+use mathlib.Core.List.{List, _++_}
+use mathlib.Core.Path.{_≡_, refl, sym, subst, _∙_}
 use native.Mathlib.Omega.{arith}
-use borrow.Author.Tests.{ltb-true, ltb-false, eqb-true, eqb-false}
+use borrow.Author.Tests.{eqb-true, eqb-false}
 use lib.Dec.{eqb, ltb}
 use lib.ListN.{length}
-use Rattle.loops.specs.Run.{Turn, go, stop, until}
 use Rattle.bits.specs.Fields.{fieldAt}
 use Rattle.rows.specs.Rows.{check, first}
 use Rattle.rows.specs.declared.Check.{Check}
 use Rattle.rows.specs.declared.Field.{Field}
-use Rattle.rows.specs.declared.Row.the-variants.{Marker, Lacking}
 use Rattle.rows.specs.declared.Field.the-variants.{Soc, Nlt, Cdt, Wgt, Cts, Tpc, Wgr, Sli, Lcdt, Lwgt}
+use Rattle.rows.specs.declared.Row.the-variants.{Marker, Lacking}
 use Rattle.rows.specs.declared.Verdict.{Verdict}
 use Rattle.rows.specs.declared.Verdict.the-variants.{Fine, Refused}
 use Rattle.rows.proofs.Tables.{append-fine, held}
 use Rattle.picture.specs.Markers.{CDT, WGT, COM, NLT, CWD, CTS, CRG, TPC, WGR, SLH, SLI}
+use Rattle.picture.specs.Opening.{picturePlace, openingChecks, Opened}
+use Rattle.picture.specs.Picture.{pictureAt}
 use Rattle.picture.specs.Segment.{segmentAt, lengthChecks}
 use Rattle.picture.specs.declared.picture.Picture.{Picture}
+use Rattle.picture.proofs.Laws.{opened}
 use Rattle.segments.specs.Components.{componentsChecks}
-use Rattle.segments.specs.Weights.{bandsIn, gainChecks}
 use Rattle.segments.specs.Segments.{kindOf, noneSeen, counted, onceChecks, seenChecks, unbuiltChecks, sliceChecks, headChecks, checksOf, segmentChecks}
+use Rattle.segments.specs.Weights.{bandsIn, gainChecks}
 use Rattle.segments.specs.declared.kinds.Kind.{Kind}
 use Rattle.segments.specs.declared.kinds.Kind.the-variants.{Components, Weights, Extension, Undecomposed, Registration, Unbuilt, Slice, Predicted, Unknown}
 use Rattle.segments.specs.declared.seen.Seen.{Seen}
-use Rattle.picture.specs.Picture.{pictureAt}
-use Rattle.picture.specs.Opening.{picturePlace, openingChecks, Opened}
-use Rattle.picture.proofs.Laws.{opened}
-use Rattle.header.specs.Walk.{ended, accepted, judged, step, turn, begun, walkOr, walk, Inside}
 use Rattle.header.specs.Header.{headerIn, walkBy, headerBy, walkOf, readingOf, Accepted}
-use Rattle.header.proofs.Until.{Keeps, until-keeps}
-use Rattle.header.proofs.Steps.{turn-on, turn-end, bound-unused, step-inside}
-use Rattle.header.proofs.Ranges.{sampled-at, columns-at, gains-at}
-use Rattle.header.proofs.Whole.{opening-fine}
+use Rattle.header.specs.Walk.{ended, accepted, judged, step, turn, begun, walk, Inside}
 use Rattle.header.specs.declared.walk.Walk.{Walk}
+use Rattle.header.proofs.Ranges.{sampled-at, columns-at, gains-at}
+use Rattle.header.proofs.Steps.{turn-on, turn-end, bound-unused, step-inside}
+use Rattle.header.proofs.Until.{Keeps, until-keeps}
+use Rattle.header.proofs.Whole.{opening-fine}
 
 -- ---- kinds and markers
 

@@ -1,27 +1,25 @@
 -- What accepted tables say of their fields. Assumes nothing.
-use Prim.Native.Nat.{ℕ, zero, suc, _+_, _*_, _-_, _^_, _≤_, _<_, zero-le, max}
-use mathlib.Core.Path.{_≡_, refl, sym, ap, subst, _∙_}
+use Prim.Native.Nat.{ℕ, zero, suc, _+_, _*_, _-_, _≤_, _<_, zero-le, max}
 use mathlib.Core.Bool.{Bool, true, false, _&&_, _||_, cond}
-use mathlib.Core.List.{List, [], _∷_, _++_}
+use mathlib.Core.List.{List, _++_}
+use mathlib.Core.Path.{_≡_, refl, sym, _∙_}
 use native.Mathlib.Decide.{decLt}
-use native.Mathlib.Numerals.{add-one}
 use native.Mathlib.Omega.{arith}
 use borrow.Author.Tests.{lt-ltb, le-ltb, ltb-true, eq-eqb}
 use lib.Dec.{eqb, ltb, lit≤}
-use lib.ListN.{length, getD}
-use Rattle.whole.specs.Numbers.{ceilDiv}
-use Rattle.rows.specs.Rows.{first, each}
+use lib.ListN.{getD}
+use Rattle.rows.specs.Rows.{first}
 use Rattle.rows.specs.declared.Field.the-variants.{Sx, Sy}
 use Rattle.rows.specs.declared.Verdict.the-variants.{Fine}
 use Rattle.rows.proofs.Tables.{append-fine, each-fine, held}
 use Rattle.picture.specs.Picture.{Built}
 use Rattle.picture.specs.declared.picture.Picture.{Picture}
 use Rattle.segments.specs.Bands.{samples, levelsDown, bands, existing}
-use Rattle.segments.specs.Components.{sxAt, componentAt, widest, depthChecks, levelChecks, filterChecks, columnUnit, lastColumn, leastColumn, sxChecks, acrossChecks, syChecks, downChecks, componentChecks, componentRow, componentsChecks}
+use Rattle.segments.specs.Components.{sxAt, componentAt, widest, depthChecks, levelChecks, filterChecks, columnUnit, lastColumn, sxChecks, acrossChecks, syChecks, downChecks, componentChecks, componentRow, componentsChecks}
 use Rattle.segments.specs.Weights.{bandIn, bandsIn, gainAt, gainRow, gainChecks}
 use Rattle.segments.specs.declared.components.Component.{Component}
 use Rattle.segments.proofs.NumberLaws.{cond-le}
-use Rattle.header.specs.Header.{four, listed, componentOf, noComponent, bandIs, gainOf, largest, Sampled}
+use Rattle.header.specs.Header.{four, listed, componentOf, bandIs, gainOf, largest, Sampled}
 use Rattle.header.proofs.Lists.{listed-at, listed-past}
 
 -- ---- a component

@@ -1,32 +1,31 @@
 -- Laws of the walk: a step that goes on gets at least four bytes further and stays in the stream, so the walk ends by itself. Assumes nothing.
-use Prim.Native.Nat.{ℕ, zero, suc, _+_, _*_, _-_, _≤_, _<_}
-use mathlib.Core.Path.{_≡_, refl, sym, _∙_}
+use Prim.Native.Nat.{ℕ, _+_, _*_, _-_, _≤_, _<_}
 use mathlib.Core.Bool.{Bool, true, false, _&&_, cond}
-use mathlib.Core.List.{List, [], _∷_, _++_}
+use mathlib.Core.List.{List, _++_}
+use mathlib.Core.Path.{_≡_, refl, sym}
 use native.Mathlib.Omega.{arith}
 use lib.Dec.{eqb, lit≤}
 use lib.ListN.{length}
-use Rattle.loops.specs.Run.{Turn, go, stop, then, until}
+use Rattle.loops.specs.Run.{go, stop}
 use Rattle.bits.specs.Fields.{fieldAt}
 use Rattle.rows.specs.Rows.{first}
-use Rattle.rows.specs.declared.Row.the-variants.{Lacking}
 use Rattle.rows.specs.declared.Field.the-variants.{Cdt, Wgt, Crg, Lcdt, Lwgt, Lcom, Lcrg, Lcwd}
+use Rattle.rows.specs.declared.Row.the-variants.{Lacking}
 use Rattle.rows.specs.declared.Verdict.{Verdict}
 use Rattle.rows.specs.declared.Verdict.the-variants.{Fine, Refused}
 use Rattle.rows.proofs.Tables.{append-fine, held}
 use Rattle.picture.specs.Markers.{CAPTION}
 use Rattle.picture.specs.Segment.{segmentAt, lengthChecks}
 use Rattle.picture.specs.declared.picture.Picture.{Picture}
-use Rattle.picture.specs.declared.segment.Segment.{Segment}
 use Rattle.picture.proofs.Laws.{ends}
 use Rattle.segments.specs.Components.{componentsChecks}
-use Rattle.segments.specs.Weights.{bandsIn, gainChecks}
 use Rattle.segments.specs.Segments.{kindOf, typeAt, onceChecks, seenChecks, typeChecks, onlyChecks, sdChecks, headChecks, checksOf, segmentChecks}
+use Rattle.segments.specs.Weights.{bandsIn, gainChecks}
 use Rattle.segments.specs.declared.kinds.Kind.{Kind}
 use Rattle.segments.specs.declared.kinds.Kind.the-variants.{Components, Weights, Extension, Undecomposed, Registration, Unbuilt, Slice, Predicted, Unknown}
 use Rattle.segments.specs.declared.seen.Seen.{Seen}
 use Rattle.segments.proofs.NumberLaws.{cond-le}
-use Rattle.header.specs.Walk.{captionPlace, captionOf, ended, accepted, judged, step, turn, begun, walkOr, walk, Inside}
+use Rattle.header.specs.Walk.{captionOf, ended, accepted, judged, step, turn, begun, walkOr, walk, Inside}
 use Rattle.header.specs.declared.walk.Walk.{Walk}
 use Rattle.header.proofs.Until.{Falls, until-free}
 

@@ -1,5 +1,5 @@
 -- Laws of a loop that does not count, for any loop. Assumes nothing.
-use Prim.Native.Nat.{ℕ, zero, suc, _≤_, _<_}
+use Prim.Native.Nat.{ℕ, zero, suc, _<_}
 use mathlib.Core.Path.{_≡_, refl}
 use native.Mathlib.Omega.{arith}
 use Rattle.loops.specs.Run.{Turn, go, stop, then, until}

@@ -1,15 +1,15 @@
 -- Laws of the whole header. Assumes nothing.
 use Prim.Native.Nat.{ℕ, _+_, _≤_, zero-le}
-use mathlib.Core.Path.{_≡_, refl}
 use mathlib.Core.List.{List}
+use mathlib.Core.Path.{_≡_, refl}
 use native.Mathlib.Omega.{arith}
 use lib.ListN.{length}
 use Rattle.rows.specs.declared.Check.{Check}
 use Rattle.rows.specs.declared.Verdict.{Verdict}
 use Rattle.rows.specs.declared.Verdict.the-variants.{Fine, Refused}
 use Rattle.picture.specs.declared.picture.Picture.{Picture}
-use Rattle.header.specs.Walk.{Inside}
 use Rattle.header.specs.Header.{walkBy, headerBy}
+use Rattle.header.specs.Walk.{Inside}
 use Rattle.header.specs.declared.walk.Walk.{Walk}
 
 refused-fine : {A : Type 0} {c : Check} → Refused c ≡ Fine → A

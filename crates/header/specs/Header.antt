@@ -1,8 +1,8 @@
 -- The header of a codestream: what its segments say, or the first broken check.
 use Prim.Native.Nat.{ℕ, zero, suc, _+_, _^_, _≤_, _<_, max}
-use mathlib.Core.Path.{_≡_}
 use mathlib.Core.Bool.{Bool, false, _&&_, cond}
 use mathlib.Core.List.{List, [], _∷_, _++_}
+use mathlib.Core.Path.{_≡_}
 use lib.Dec.{ltb}
 use lib.ListN.{length, getD, take, drop, replicate}
 use Rattle.whole.specs.Numbers.{ceilDiv}
@@ -11,21 +11,21 @@ use Rattle.rows.specs.Rows.{first}
 use Rattle.rows.specs.declared.Verdict.{Verdict}
 use Rattle.rows.specs.declared.Verdict.the-variants.{Fine, Refused}
 use Rattle.picture.specs.Markers.{SLH}
-use Rattle.picture.specs.Picture.{noPicture, pictureAt, Built}
 use Rattle.picture.specs.Opening.{picturePlace, openingChecks}
+use Rattle.picture.specs.Picture.{noPicture, pictureAt, Built}
 use Rattle.picture.specs.declared.picture.Picture.{Picture}
 use Rattle.segments.specs.Bands.{samples, levelsDown, bands, existing}
 use Rattle.segments.specs.Components.{componentAt, columnUnit, lastColumn}
-use Rattle.segments.specs.Weights.{bandIn, gainAt, priorityAt}
 use Rattle.segments.specs.Segments.{noneSeen}
+use Rattle.segments.specs.Weights.{bandIn, gainAt, priorityAt}
 use Rattle.segments.specs.declared.components.Component.{Component}
 use Rattle.segments.specs.declared.seen.Seen.{Seen}
 use Rattle.header.specs.Walk.{ended, walk, captionOf}
-use Rattle.header.specs.declared.walk.Walk.{Walk}
 use Rattle.header.specs.declared.captions.Caption.{Caption}
-use Rattle.header.specs.declared.weights.Weights.{Weights}
 use Rattle.header.specs.declared.header.Header.{Header}
 use Rattle.header.specs.declared.header.Reading.{Reading}
+use Rattle.header.specs.declared.walk.Walk.{Walk}
+use Rattle.header.specs.declared.weights.Weights.{Weights}
 
 -- the numbers of an index, from 0 on
 abbrev pub four : (ℕ → ℕ) → List ℕ

@@ -1,11 +1,12 @@
 -- From the picture header to the first slice header: one segment after the other.
-use Prim.Native.Nat.{ℕ, _+_, _-_, _<_, _≤_, _^_}
-use mathlib.Core.Path.{_≡_}
-use mathlib.Core.Bool.{Bool, true, false, not, _&&_, cond}
+use Prim.Native.Nat.{ℕ, _+_, _-_, _≤_}
+use mathlib.Core.Bool.{true, false, not, _&&_, cond}
 use mathlib.Core.List.{List}
+use mathlib.Core.Path.{_≡_}
 use lib.Dec.{eqb}
 use lib.ListN.{length}
 use Rattle.loops.specs.Run.{Turn, go, stop, until}
+use Rattle.bits.specs.Fields.{fieldAt}
 use Rattle.rows.specs.Rows.{first}
 use Rattle.rows.specs.declared.Verdict.{Verdict}
 use Rattle.rows.specs.declared.Verdict.the-variants.{Fine, Refused}
@@ -17,7 +18,6 @@ use Rattle.segments.specs.Segments.{kindOf, typeAt, noneSeen, segmentChecks}
 use Rattle.segments.specs.declared.kinds.Kind.{Kind}
 use Rattle.segments.specs.declared.kinds.Kind.the-variants.{Components, Weights, Extension, Undecomposed, Registration, Unbuilt, Slice, Predicted, Unknown}
 use Rattle.segments.specs.declared.seen.Seen.{Seen}
-use Rattle.bits.specs.Fields.{fieldAt}
 use Rattle.header.specs.declared.captions.Caption.{Caption}
 use Rattle.header.specs.declared.walk.Walk.{Walk}
 

@@ -1,22 +1,22 @@
 -- Laws of segments and of the picture header. Assumes nothing.
-use Prim.Native.Nat.{ℕ, _+_, _*_, _≤_, _<_, _^_}
-use mathlib.Core.Path.{_≡_, sym}
+use Prim.Native.Nat.{ℕ, _+_, _*_, _≤_}
 use mathlib.Core.Bool.{Bool, true, false, cond}
 use mathlib.Core.List.{List, _++_}
+use mathlib.Core.Path.{_≡_}
 use native.Mathlib.Omega.{arith}
-use lib.ListN.{length}
 use lib.Dec.{ltb, lit≤}
-use Rattle.bits.specs.Fields.{field, fieldAt}
+use lib.ListN.{length}
+use Rattle.bits.specs.Fields.{fieldAt}
 use Rattle.bits.proofs.Laws.{field-lt}
 use Rattle.rows.specs.Rows.{first}
-use Rattle.rows.specs.declared.Verdict.the-variants.{Fine}
 use Rattle.rows.specs.declared.Field.{Field}
-use Rattle.rows.proofs.Tables.{append-fine, held}
 use Rattle.rows.specs.declared.Field.the-variants.{Pih, Lpih}
+use Rattle.rows.specs.declared.Verdict.the-variants.{Fine}
+use Rattle.rows.proofs.Tables.{append-fine, held}
 use Rattle.picture.specs.Markers.{PIH}
-use Rattle.picture.specs.Segment.{segmentAt, markerChecks, lengthChecks, IsSegment}
 use Rattle.picture.specs.Opening.{startChecks, picturePlace, pictureChecks, openingChecks, Opened}
-use Rattle.picture.specs.Picture.{pictureAt, sizeChecks, precisionChecks, modeChecks, levelChecks, fieldChecks, leastBw, mostBw, Built}
+use Rattle.picture.specs.Picture.{pictureAt, sizeChecks, precisionChecks, modeChecks, levelChecks, fieldChecks, Built}
+use Rattle.picture.specs.Segment.{segmentAt, markerChecks, lengthChecks, IsSegment}
 use Rattle.picture.specs.declared.segment.Segment.{Segment}
 
 -- ---- a segment

@@ -1,17 +1,17 @@
 -- A.4.1, A.4.3, A.4.4: SOC, CAP and PIH are the first three segments, in this order. Capability bits are not judged.
 use Prim.Native.Nat.{ℕ, _+_, _≤_, _<_, _^_}
-use mathlib.Core.Path.{_≡_}
 use mathlib.Core.List.{List, _++_}
+use mathlib.Core.Path.{_≡_}
 use lib.ListN.{length}
 use Rattle.bits.specs.Fields.{fieldAt}
 use Rattle.rows.specs.Rows.{first}
 use Rattle.rows.specs.declared.Check.{Check}
 use Rattle.rows.specs.declared.Field.the-variants.{Soc, Cap, Lcap, Pih, Lpih}
 use Rattle.picture.specs.Markers.{SOC, CAP, PIH}
-use Rattle.picture.specs.Segment.{segmentAt, markerChecks, lengthChecks}
 use Rattle.picture.specs.Picture.{pictureAt, fieldChecks, Built}
-use Rattle.picture.specs.declared.picture.Picture.{Picture}
+use Rattle.picture.specs.Segment.{segmentAt, markerChecks, lengthChecks}
 use Rattle.picture.specs.declared.opening.Opening.{Opening}
+use Rattle.picture.specs.declared.picture.Picture.{Picture}
 
 -- A.4.1 and A.4.3: SOC is a marker alone, so CAP stands at 2
 abbrev pub startChecks : List ℕ → List Check

@@ -1,14 +1,14 @@
 -- A.4.4: the picture header. Places count from p, its marker's place.
 use Prim.Native.Nat.{ℕ, _+_, _*_, _≤_, _<_, _^_}
-use mathlib.Core.Path.{_≡_}
 use mathlib.Core.Bool.{_||_, cond}
 use mathlib.Core.List.{List, [], _∷_, _++_}
+use mathlib.Core.Path.{_≡_}
 use lib.Dec.{eqb, leb, ltb}
 use Rattle.bits.specs.Fields.{field, fieldAt}
 use Rattle.rows.specs.Rows.{check, ample}
 use Rattle.rows.specs.declared.Check.{Check}
-use Rattle.rows.specs.declared.Row.the-variants.{Value, Lacking, Length}
 use Rattle.rows.specs.declared.Field.the-variants.{Lcod, Wf, Hf, Hsl, Nc, Ng, Ss, Bw, Fq, Br, Fslc, Ppoc, Cpih, Nlx, Nly, Qpih, Fs, Rm}
+use Rattle.rows.specs.declared.Row.the-variants.{Value, Lacking, Length}
 use Rattle.picture.specs.declared.picture.Modes.{Modes}
 use Rattle.picture.specs.declared.picture.Picture.{Picture}
 

@@ -1,7 +1,7 @@
 -- A.3: a marker, then a length of two bytes 'which consists of the length of the payload data in bytes, and the size of the length field itself'.
 use Prim.Native.Nat.{ℕ, _+_, _-_, _<_, _^_}
-use mathlib.Core.Path.{_≡_}
 use mathlib.Core.List.{List, [], _∷_}
+use mathlib.Core.Path.{_≡_}
 use lib.ListN.{length}
 use Rattle.bits.specs.Fields.{fieldAt}
 use Rattle.rows.specs.Rows.{check, ample}

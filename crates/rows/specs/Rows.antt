@@ -1,12 +1,12 @@
 -- Document 01's refusals. 'Checking runs from the front. The first field at which a row applies decides; at one field the lowest number wins.'
 use Prim.Native.Nat.{ℕ, zero, suc}
-use mathlib.Core.Bool.{Bool, true, false, _||_, cond}
+use mathlib.Core.Bool.{Bool, _||_, cond}
 use mathlib.Core.List.{List, [], _∷_, _++_}
 use lib.Dec.{ltb}
+use Rattle.rows.specs.declared.Check.{Check}
+use Rattle.rows.specs.declared.Field.{Field}
 use Rattle.rows.specs.declared.Row.{Row}
 use Rattle.rows.specs.declared.Row.the-variants.{Cut, Marker, Value, Lacking, Lent, Length, Count, Mode}
-use Rattle.rows.specs.declared.Field.{Field}
-use Rattle.rows.specs.declared.Check.{Check}
 use Rattle.rows.specs.declared.Verdict.{Verdict}
 use Rattle.rows.specs.declared.Verdict.the-variants.{Fine, Refused}
 

@@ -1,16 +1,16 @@
 -- Laws of bands. Assumes nothing.
-use Prim.Native.Nat.{ℕ, zero, suc, _+_, _*_, _-_, _/_, _%_, _^_, _≤_, _<_, min, max}
-use mathlib.Core.Path.{_≡_, refl, sym, _∙_}
+use Prim.Native.Nat.{ℕ, _+_, _*_, _-_, _/_, _%_, _^_, _≤_, _<_, min}
 use mathlib.Core.Bool.{Bool, true, false, cond}
+use mathlib.Core.Path.{_≡_, refl, _∙_}
 use native.Mathlib.Decide.{decLe, decLt}
 use native.Mathlib.Nat.{le-refl, mul-zero, mul-one, mul-comm, mul-le-mul, zero-mod, mod-lt, div-lt-iff-lt-mul}
 use native.Mathlib.Numerals.{add-one}
 use native.Mathlib.Omega.{arith}
 use borrow.Author.Tests.{lt-ltb, le-ltb, le-leb, lt-leb, eqb-true, eqb-false}
-use lib.Dec.{eqb, leb, ltb}
-use Rattle.segments.specs.Bands.{filterTypes, filterType, below, dx, dy, τx, τy, exists, bands, existing}
+use lib.Dec.{eqb}
 use Rattle.picture.specs.Picture.{Built}
 use Rattle.picture.specs.declared.picture.Picture.{Picture}
+use Rattle.segments.specs.Bands.{filterTypes, filterType, below, dx, dy, τx, τy, exists, bands, existing}
 
 -- ---- β's depths and filters are those of which B.3 makes β
 

@@ -1,16 +1,16 @@
 -- A.4.5: the component table. p is its marker's place, c counts the components.
 use Prim.Native.Nat.{ℕ, zero, suc, _+_, _*_, _%_, _^_, _<_, max}
-use mathlib.Core.Path.{_≡_}
 use mathlib.Core.Bool.{_||_, _&&_, cond}
 use mathlib.Core.List.{List, [], _∷_, _++_}
+use mathlib.Core.Path.{_≡_}
 use lib.Dec.{eqb, ltb}
 use Rattle.whole.specs.Numbers.{ceilDiv}
 use Rattle.bits.specs.Fields.{fieldAt}
 use Rattle.rows.specs.Rows.{check, ample, each}
 use Rattle.rows.specs.declared.Check.{Check}
 use Rattle.rows.specs.declared.Field.{Field}
-use Rattle.rows.specs.declared.Row.the-variants.{Value, Lacking}
 use Rattle.rows.specs.declared.Field.the-variants.{Cw, B, Sx, Sy}
+use Rattle.rows.specs.declared.Row.the-variants.{Value, Lacking}
 use Rattle.picture.specs.Picture.{bitsAt}
 use Rattle.picture.specs.declared.picture.Picture.{Picture}
 use Rattle.segments.specs.Bands.{samples, levelsDown}

@@ -1,15 +1,15 @@
 -- A.4.5 to A.4.15: the segments between the picture header and the first slice header, in any order, and that header's marker.
 use Prim.Native.Nat.{ℕ, zero, suc, _+_, _*_, _-_, _^_, _<_}
-use mathlib.Core.Bool.{Bool, _&&_, cond}
+use mathlib.Core.Bool.{_&&_, cond}
 use mathlib.Core.List.{List, [], _∷_, _++_}
 use lib.Dec.{eqb, ltb}
 use Rattle.bits.specs.Fields.{fieldAt}
 use Rattle.rows.specs.Rows.{check, ample}
 use Rattle.rows.specs.declared.Check.{Check}
-use Rattle.rows.specs.declared.Row.{Row}
 use Rattle.rows.specs.declared.Field.{Field}
-use Rattle.rows.specs.declared.Row.the-variants.{Cut, Marker, Value, Lacking}
 use Rattle.rows.specs.declared.Field.the-variants.{Next, Cdt, Wgt, Nlt, Cwd, Cts, Crg, Tpc, Wgr, Sli, Lcdt, Lwgt, Lcom, Tcom, Lcrg, Lcwd, Sd}
+use Rattle.rows.specs.declared.Row.{Row}
+use Rattle.rows.specs.declared.Row.the-variants.{Cut, Marker, Value, Lacking}
 use Rattle.picture.specs.Markers.{CDT, WGT, COM, NLT, CWD, CTS, CRG, TPC, WGR, SLH, SLI}
 use Rattle.picture.specs.Segment.{lengthChecks}
 use Rattle.picture.specs.declared.picture.Picture.{Picture}

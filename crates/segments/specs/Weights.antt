@@ -5,8 +5,8 @@ use mathlib.Core.List.{List, [], _∷_}
 use Rattle.bits.specs.Fields.{fieldAt}
 use Rattle.rows.specs.Rows.{check, each}
 use Rattle.rows.specs.declared.Check.{Check}
-use Rattle.rows.specs.declared.Row.the-variants.{Value}
 use Rattle.rows.specs.declared.Field.the-variants.{G}
+use Rattle.rows.specs.declared.Row.the-variants.{Value}
 use Rattle.picture.specs.declared.picture.Picture.{Picture}
 use Rattle.segments.specs.Bands.{bands, bandExists, existing}
 use Rattle.segments.specs.Components.{syAt}

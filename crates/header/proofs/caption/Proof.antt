@@ -1,3 +1,4 @@
+-- `header::caption`: the part that the header has, which ends in the stream. Assumes nothing.
 use mathlib.Core.Path.{_∙_}
 use native.Mathlib.Nat.{add-sub-cancel-left}
 use denote.Ref.{now}

@@ -1,3 +1,4 @@
+-- `header::read`: the walk behind the opening, and the header by its verdict. Assumes nothing.
 use mathlib.Core.Path.{_≡_, sym, subst, _∙_}
 use denote.Ref.{now}
 use Rattle.rows.specs.declared.Verdict.the-variants.{Fine}

@@ -1,11 +1,12 @@
+-- `heads::main`: ends. Assumes nothing.
 use Prim.Native.Nat.{_≤_, _-_}
+use Rattle.heads.proofs.main.Lts as lts
+use Rattle.heads.proofs.main.Reads as reads
+use Rattle.heads.proofs.print_file.Reads as print-file-reads
+use Rattle.os.proofs.arg_count.Reads as arg-count-reads
 use borrow.Author.Needs.{needs}
 use Rattle.heads.proofs.main.Statement.{statement}
 use Rattle.heads.proofs.main.Tie as tie
-use Rattle.heads.proofs.main.Reads as reads
-use Rattle.heads.proofs.main.Lts as lts
-use Rattle.heads.proofs.print_file.Reads as print-file-reads
-use Rattle.os.proofs.arg_count.Reads as arg-count-reads
 
 abbrev Inv-loop : tie.InvT-loop
 Inv-loop count i₀ i =

@@ -1,15 +1,16 @@
+-- `heads::print_bands`: ends, and reads inside the array. Assumes nothing.
 use Prim.Native.Nat.{_≤_, _-_}
 use mathlib.Core.Path.{_≡_}
 use lib.ListN.{length}
-use borrow.Author.Needs.{needs}
-use Rattle.heads.proofs.print_bands.Statement.{statement}
-use Rattle.heads.proofs.print_bands.Tie as tie
-use Rattle.heads.proofs.print_bands.Reads as reads
-use Rattle.heads.proofs.print_bands.Lts as lts
 use Rattle.heads.proofs.number.Reads as number-reads
+use Rattle.heads.proofs.print_bands.Lts as lts
+use Rattle.heads.proofs.print_bands.Reads as reads
 use Rattle.heads.proofs.space.Reads as space-reads
 use Rattle.heads.proofs.text.Reads as text-reads
 use Rattle.heads.proofs.wide.Reads as wide-reads
+use borrow.Author.Needs.{needs}
+use Rattle.heads.proofs.print_bands.Statement.{statement}
+use Rattle.heads.proofs.print_bands.Tie as tie
 
 abbrev Inv-loop : tie.InvT-loop
 Inv-loop name weights b₀ t5 b =

@@ -1,13 +1,14 @@
+-- `heads::print_bytes`: ends, and reads inside the slice. Assumes nothing.
 use Prim.Native.Nat.{_≤_, _-_}
 use lib.ListN.{length}
+use Rattle.heads.proofs.number.Reads as number-reads
+use Rattle.heads.proofs.print_bytes.Lts as lts
+use Rattle.heads.proofs.print_bytes.Reads as reads
+use Rattle.heads.proofs.space.Reads as space-reads
+use Rattle.heads.proofs.wide.Reads as wide-reads
 use borrow.Author.Needs.{needs}
 use Rattle.heads.proofs.print_bytes.Statement.{statement}
 use Rattle.heads.proofs.print_bytes.Tie as tie
-use Rattle.heads.proofs.print_bytes.Reads as reads
-use Rattle.heads.proofs.print_bytes.Lts as lts
-use Rattle.heads.proofs.number.Reads as number-reads
-use Rattle.heads.proofs.space.Reads as space-reads
-use Rattle.heads.proofs.wide.Reads as wide-reads
 
 abbrev Inv-loop : tie.InvT-loop
 Inv-loop bytes i₀ i =

@@ -1,12 +1,13 @@
+-- `heads::print_components`: ends, and reads inside the arrays. Assumes nothing.
 use Prim.Native.Nat.{_≤_, _-_}
 use mathlib.Core.Path.{_≡_}
 use lib.ListN.{length}
+use Rattle.heads.proofs.print_component.Reads as print-component-reads
+use Rattle.heads.proofs.print_components.Lts as lts
+use Rattle.heads.proofs.print_components.Reads as reads
 use borrow.Author.Needs.{needs}
 use Rattle.heads.proofs.print_components.Statement.{statement}
 use Rattle.heads.proofs.print_components.Tie as tie
-use Rattle.heads.proofs.print_components.Reads as reads
-use Rattle.heads.proofs.print_components.Lts as lts
-use Rattle.heads.proofs.print_component.Reads as print-component-reads
 
 abbrev Inv-loop : tie.InvT-loop
 Inv-loop h c₀ c =

@@ -1,15 +1,15 @@
 -- `rows::first`: what is left of the table decides as the whole table does. Assumes nothing.
 use Prim.Native.Nat.{ℕ, _≤_, _-_, _+_, _<_}
-use native.Mathlib.Omega.{arith}
-use native.Mathlib.Numerals.{add-one}
-use mathlib.Core.Path.{_≡_, refl, ap, sym, _∙_}
 use mathlib.Core.Bool.{true, false}
 use mathlib.Core.List.{List}
+use mathlib.Core.Path.{_≡_, refl, ap, sym, _∙_}
+use native.Mathlib.Numerals.{add-one}
+use native.Mathlib.Omega.{arith}
 use lib.ListN.{length, drop, getD, drop-of-length-le}
 use lib.Seq.{drop-cons}
 use Rattle.rows.specs.Rows.{broken, first}
-use Rattle.rows.specs.declared.Verdict.the-variants.{Refused}
 use Rattle.rows.specs.declared.Check.{Check}
+use Rattle.rows.specs.declared.Verdict.the-variants.{Refused}
 use borrow.Author.Needs.{needs}
 use Rattle.rows.proofs.first.Statement.{statement}
 use Rattle.rows.proofs.first.Tie as tie

@@ -1,5 +1,6 @@
-use mathlib.Core.Path.{sym, _∙_}
+-- `header::header::component`: in the table, or none. Assumes nothing.
 use mathlib.Core.Bool.{cond}
+use mathlib.Core.Path.{sym, _∙_}
 use borrow.Author.Tests.{lt-ltb, le-ltb}
 use denote.Ref.{now}
 use Rattle.segments.specs.Components.{componentAt}

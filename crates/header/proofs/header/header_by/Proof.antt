@@ -1,3 +1,4 @@
+-- `header::header::header_by`: by the verdict. Assumes nothing.
 use mathlib.Core.Path.{sym, _∙_}
 use native.Mathlib.Omega.{arith}
 use denote.Ref.{now}

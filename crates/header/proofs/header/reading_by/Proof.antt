@@ -1,3 +1,4 @@
+-- `header::header::reading_by`: the header is the verdict's. Assumes nothing.
 use denote.Ref.{now}
 use Rattle.header.proofs.Whole.{part-inside}
 use borrow.Author.Needs.{needs}

@@ -1,9 +1,10 @@
+-- `header::header::walk_by`: by the verdict; what holds of an accepted opening lets the walk begin. Assumes nothing.
 use Prim.Native.Nat.{zero-le}
 use mathlib.Core.Path.{sym, _∙_}
 use native.Mathlib.Omega.{arith}
 use denote.Ref.{now}
-use Rattle.header.specs.Walk.{ended}
 use Rattle.header.specs.Header.{walkBy}
+use Rattle.header.specs.Walk.{ended}
 use borrow.Author.Needs.{needs}
 use Rattle.header.proofs.header.walk_by.Statement.{statement}
 use Rattle.header.proofs.header.walk_by.Tie as tie

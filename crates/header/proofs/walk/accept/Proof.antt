@@ -1,3 +1,4 @@
+-- `header::walk::accept`: each arm is the step of its kind. Assumes nothing.
 use mathlib.Core.Path.{sym, _∙_}
 use denote.Ref.{now}
 use Rattle.header.specs.Walk.{behind, accepted}

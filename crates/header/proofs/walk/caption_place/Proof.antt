@@ -1,5 +1,6 @@
-use mathlib.Core.Path.{_∙_}
+-- `header::walk::caption_place`: the type is what its reader answers. Assumes nothing.
 use mathlib.Core.Bool.{_&&_, cond}
+use mathlib.Core.Path.{_∙_}
 use lib.Dec.{eqb}
 use Rattle.picture.specs.Markers.{CAPTION}
 use borrow.Author.Needs.{needs}

@@ -1,3 +1,4 @@
+-- `header::walk::judge`: a refusal ends the walk, and nothing else does here. Assumes nothing.
 use mathlib.Core.Path.{sym, _∙_}
 use denote.Ref.{now}
 use Rattle.header.specs.Walk.{ended, judged}

@@ -1,3 +1,4 @@
+-- `header::walk::step`: the segment is what its reader answers, and so are its verdict and its kind. Assumes nothing.
 use mathlib.Core.Path.{_∙_}
 use native.Mathlib.Omega.{arith}
 use denote.Ref.{now}

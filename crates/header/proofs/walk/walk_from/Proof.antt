@@ -1,3 +1,4 @@
+-- `header::walk::walk_from`: the loop is the definition's, by its measure: what is left of the stream falls with each step. Assumes nothing.
 use Prim.Native.Nat.{_+_, zero-le}
 use mathlib.Core.Path.{sym}
 use native.Mathlib.Omega.{arith}

@@ -1,5 +1,6 @@
-use mathlib.Core.Path.{sym, _∙_}
+-- `header::weights::byte_if`: by the test. Assumes nothing.
 use mathlib.Core.Bool.{cond}
+use mathlib.Core.Path.{sym, _∙_}
 use denote.Ref.{now}
 use Rattle.bits.specs.Fields.{fieldAt}
 use borrow.Author.Needs.{needs}

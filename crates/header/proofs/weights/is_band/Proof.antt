@@ -1,5 +1,6 @@
-use mathlib.Core.Path.{sym, _∙_}
+-- `header::weights::is_band`: by the test that b is below the number of bands. Assumes nothing.
 use mathlib.Core.Bool.{_&&_}
+use mathlib.Core.Path.{sym, _∙_}
 use native.Mathlib.Omega.{arith}
 use borrow.Author.Tests.{lt-ltb, le-ltb}
 use denote.Ref.{now}

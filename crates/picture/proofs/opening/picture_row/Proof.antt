@@ -1,15 +1,16 @@
-use Rattle.picture.proofs.Laws.{at-place}
-use mathlib.Core.Path.{_∙_}
+-- `picture::opening::picture_row`: three tables, joined. Assumes nothing.
 use mathlib.Core.List.{_++_}
+use mathlib.Core.Path.{_∙_}
 use native.Mathlib.Omega.{arith}
-use lib.ListN.{length}
 use denote.Ref.{now}
+use lib.ListN.{length}
 use Rattle.rows.specs.Rows.{first}
 use Rattle.rows.specs.declared.Field.the-variants.{Pih, Lpih}
 use Rattle.rows.proofs.Tables.{joined}
 use Rattle.picture.specs.Markers.{PIH}
-use Rattle.picture.specs.Segment.{segmentAt, markerChecks, lengthChecks}
 use Rattle.picture.specs.Picture.{pictureAt, fieldChecks}
+use Rattle.picture.specs.Segment.{segmentAt, markerChecks, lengthChecks}
+use Rattle.picture.proofs.Laws.{at-place}
 use borrow.Author.Needs.{needs}
 use Rattle.picture.proofs.opening.picture_row.Statement.{statement}
 use Rattle.picture.proofs.opening.picture_row.Tie as tie

@@ -1,6 +1,6 @@
-use Rattle.picture.proofs.Laws.{at-place}
-use mathlib.Core.Path.{_∙_}
+-- `picture::opening::start_row`: three tables, joined. Assumes nothing.
 use mathlib.Core.List.{_++_}
+use mathlib.Core.Path.{_∙_}
 use native.Mathlib.Omega.{arith}
 use denote.Ref.{now}
 use Rattle.rows.specs.Rows.{first}
@@ -8,6 +8,7 @@ use Rattle.rows.specs.declared.Field.the-variants.{Soc, Cap, Lcap}
 use Rattle.rows.proofs.Tables.{joined}
 use Rattle.picture.specs.Markers.{SOC, CAP}
 use Rattle.picture.specs.Segment.{segmentAt, markerChecks, lengthChecks}
+use Rattle.picture.proofs.Laws.{at-place}
 use borrow.Author.Needs.{needs}
 use Rattle.picture.proofs.opening.start_row.Statement.{statement}
 use Rattle.picture.proofs.opening.start_row.Tie as tie

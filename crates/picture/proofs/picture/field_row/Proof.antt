@@ -1,3 +1,4 @@
+-- `picture::picture::field_row`: four tables, joined. Assumes nothing.
 use mathlib.Core.List.{_++_}
 use Rattle.rows.proofs.Tables.{joined}
 use Rattle.picture.specs.Picture.{sizeChecks, precisionChecks, modeChecks, levelChecks}

@@ -1,3 +1,4 @@
+-- `picture::picture::mode_row`: the table, with the ranges that depend on Nc and Cpih. Assumes nothing.
 use mathlib.Core.Path.{_∙_}
 use borrow.Author.Needs.{needs}
 use Rattle.picture.proofs.picture.mode_row.Statement.{statement}

@@ -1,3 +1,4 @@
+-- `picture::picture::precision_row`: the table, with the ranges that depend on Bw. Assumes nothing.
 use mathlib.Core.Path.{_∙_}
 use borrow.Author.Needs.{needs}
 use Rattle.picture.proofs.picture.precision_row.Statement.{statement}

@@ -1,3 +1,4 @@
+-- `segments::bands::exists`: low-pass down, or high-pass down with its first line in the component. Assumes nothing.
 use Prim.Native.Nat.{_%_}
 use mathlib.Core.Path.{sym, _∙_}
 use borrow.Author.Tests.{le-leb, lt-leb}

@@ -1,3 +1,4 @@
+-- `segments::components::across_row`: the rules of sx, then two samples to each filter across. Assumes nothing.
 use mathlib.Core.Path.{_∙_}
 use native.Mathlib.Omega.{arith}
 use Rattle.rows.specs.Rows.{first}

@@ -1,7 +1,8 @@
+-- `segments::components::column_unit`: the product of two small numbers. Assumes nothing.
 use Prim.Native.Nat.{ℕ, _*_, _^_, _≤_, _<_}
 use mathlib.Core.Path.{_≡_}
-use native.Mathlib.Omega.{arith}
 use native.Mathlib.Nat.{mul-le-mul}
+use native.Mathlib.Omega.{arith}
 use lib.Pow.{pow-mono}
 use borrow.Author.Needs.{needs}
 use Rattle.segments.proofs.components.column_unit.Statement.{statement}

@@ -1,3 +1,4 @@
+-- `segments::components::depth_row`: the table, with the range that depends on Fq. Assumes nothing.
 use mathlib.Core.Path.{_∙_}
 use borrow.Author.Needs.{needs}
 use Rattle.segments.proofs.components.depth_row.Statement.{statement}

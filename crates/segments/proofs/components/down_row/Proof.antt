@@ -1,3 +1,4 @@
+-- `segments::components::down_row`: the rules of sy, then two samples to each filter down. Assumes nothing.
 use mathlib.Core.Path.{_∙_}
 use native.Mathlib.Omega.{arith}
 use Rattle.rows.specs.Rows.{first}

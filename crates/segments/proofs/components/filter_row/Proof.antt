@@ -1,3 +1,4 @@
+-- `segments::components::filter_row`: the loop's verdict is that of the levels passed. Assumes nothing.
 use Prim.Native.Nat.{_≤_, _-_}
 use mathlib.Core.Path.{_≡_, _∙_}
 use native.Mathlib.Omega.{arith}

@@ -1,6 +1,7 @@
+-- `segments::components::last_column`: the product fits, for Cw has 16 bits and a unit is below 512. Assumes nothing.
 use Prim.Native.Nat.{_*_}
-use native.Mathlib.Omega.{arith}
 use native.Mathlib.Nat.{mul-le-mul}
+use native.Mathlib.Omega.{arith}
 use borrow.Author.Needs.{needs}
 use Rattle.segments.proofs.components.last_column.Statement.{statement}
 use Rattle.segments.proofs.components.last_column.Tie as tie

@@ -1,5 +1,6 @@
-use mathlib.Core.Path.{_∙_}
+-- `segments::components::level_row`: the table of one filter. Assumes nothing.
 use mathlib.Core.List.{[], _∷_}
+use mathlib.Core.Path.{_∙_}
 use native.Mathlib.Omega.{arith}
 use lib.Pow.{pow-lt}
 use Rattle.whole.specs.Numbers.{ceilDiv}

@@ -1,3 +1,4 @@
+-- `segments::components::sx_row`: the table, with the ranges that depend on the component, on Cpih and on Cw. Assumes nothing.
 use mathlib.Core.Path.{_∙_}
 use borrow.Author.Needs.{needs}
 use Rattle.segments.proofs.components.sx_row.Statement.{statement}

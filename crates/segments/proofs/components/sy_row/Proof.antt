@@ -1,3 +1,4 @@
+-- `segments::components::sy_row`: the table, with the ranges that depend on Cpih and NLy. Assumes nothing.
 use mathlib.Core.Path.{_∙_}
 use borrow.Author.Needs.{needs}
 use Rattle.segments.proofs.components.sy_row.Statement.{statement}

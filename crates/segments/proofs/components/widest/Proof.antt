@@ -1,3 +1,4 @@
+-- `segments::components::widest`: the loop holds the greatest sx of the components passed. Assumes nothing.
 use Prim.Native.Nat.{_≤_, _<_, _-_, max}
 use mathlib.Core.Path.{_≡_, refl, _∙_}
 use native.Mathlib.Numerals.{add-one}

@@ -1,7 +1,7 @@
+-- `segments::kinds::kind_of`: at each code Table A.2 computes, and past all of them nothing is left. Assumes nothing.
 use mathlib.Core.Path.{sym}
 use borrow.Author.Tests.{ne-eqb}
 use Rattle.segments.specs.Segments.{kindOf}
-use borrow.Author.Needs.{needs}
 use Rattle.segments.proofs.kinds.kind_of.Statement.{statement}
 use Rattle.segments.proofs.kinds.kind_of.Tie as tie
 

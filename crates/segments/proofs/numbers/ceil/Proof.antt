@@ -1,3 +1,4 @@
+-- `segments::numbers::ceil`: and for b = 0 a law. Assumes nothing.
 use mathlib.Core.Path.{sym}
 use native.Mathlib.Nat.{div-zero}
 use borrow.Author.Needs.{needs}

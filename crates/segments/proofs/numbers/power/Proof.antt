@@ -1,3 +1,4 @@
+-- `segments::numbers::power`: the shift does not wrap. Assumes nothing.
 use Rattle.whole.proofs.Machine.{one-shl}
 use borrow.Author.Needs.{needs}
 use Rattle.segments.proofs.numbers.power.Statement.{statement}

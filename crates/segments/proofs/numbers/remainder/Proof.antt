@@ -1,3 +1,4 @@
+-- `segments::numbers::remainder`: and for b = 0 a law. Assumes nothing.
 use mathlib.Core.Path.{sym}
 use native.Mathlib.Nat.{mod-zero}
 use borrow.Author.Needs.{needs}

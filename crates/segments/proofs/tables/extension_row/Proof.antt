@@ -1,12 +1,13 @@
+-- `segments::tables::extension_row`: the length, then the type. Assumes nothing.
 use Prim.Native.Nat.{_+_}
-use mathlib.Core.Path.{_∙_}
 use mathlib.Core.Bool.{cond}
 use mathlib.Core.List.{[], _∷_}
+use mathlib.Core.Path.{_∙_}
 use denote.Ref.{now}
 use lib.Dec.{ltb}
 use Rattle.rows.specs.Rows.{check, first}
-use Rattle.rows.specs.declared.Row.the-variants.{Value}
 use Rattle.rows.specs.declared.Field.the-variants.{Lcom, Tcom}
+use Rattle.rows.specs.declared.Row.the-variants.{Value}
 use Rattle.rows.proofs.Tables.{joined}
 use Rattle.picture.specs.Segment.{lengthChecks}
 use Rattle.segments.specs.Segments.{typeAt}

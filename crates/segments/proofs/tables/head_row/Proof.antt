@@ -1,3 +1,4 @@
+-- `segments::tables::head_row`: the table, with the range that depends on the marker. Assumes nothing.
 use mathlib.Core.Path.{_∙_}
 use borrow.Author.Needs.{needs}
 use Rattle.segments.proofs.tables.head_row.Statement.{statement}

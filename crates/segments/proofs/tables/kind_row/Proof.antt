@@ -1,13 +1,11 @@
+-- `segments::tables::kind_row`: each arm is the table of its kind. Assumes nothing.
 use mathlib.Core.Path.{sym, _∙_}
 use denote.Ref.{now}
 use Rattle.rows.specs.Rows.{first}
 use Rattle.segments.specs.Segments.{checksOf}
-use borrow.Author.Needs.{needs}
-use Rattle.segments.proofs.tables.kind_row.Statement.{statement}
-use Rattle.segments.proofs.tables.kind_row.Tie as tie
-use Rattle.segments.proofs.tables.kind_row.Reads as reads
-use Rattle.segments.proofs.tables.kind_row.Lts as lts
 use Rattle.segments.proofs.tables.extension_row.Reads as extension-row-reads
+use Rattle.segments.proofs.tables.kind_row.Lts as lts
+use Rattle.segments.proofs.tables.kind_row.Reads as reads
 use Rattle.segments.proofs.tables.predicted_row.Reads as predicted-row-reads
 use Rattle.segments.proofs.tables.registration_row.Reads as registration-row-reads
 use Rattle.segments.proofs.tables.slice_row.Reads as slice-row-reads
@@ -15,6 +13,9 @@ use Rattle.segments.proofs.tables.table_row.Reads as table-row-reads
 use Rattle.segments.proofs.tables.unbuilt_row.Reads as unbuilt-row-reads
 use Rattle.segments.proofs.tables.undecomposed_row.Reads as undecomposed-row-reads
 use Rattle.segments.proofs.tables.weight_row.Reads as weight-row-reads
+use borrow.Author.Needs.{needs}
+use Rattle.segments.proofs.tables.kind_row.Statement.{statement}
+use Rattle.segments.proofs.tables.kind_row.Tie as tie
 
 -- src/tables.rt:173:29
 enum-told : tie.Need-enum-told

@@ -1,6 +1,7 @@
+-- `segments::tables::once_row`: the table of one check, of a count and one more. Assumes nothing.
 use Prim.Native.Nat.{_+_}
-use mathlib.Core.Path.{_∙_}
 use mathlib.Core.List.{[], _∷_}
+use mathlib.Core.Path.{_∙_}
 use native.Mathlib.Omega.{arith}
 use lib.Dec.{eqb, lit≤}
 use Rattle.rows.specs.Rows.{check, first}

@@ -1,3 +1,4 @@
+-- `segments::tables::predicted_row`: two tables, joined. Assumes nothing.
 use Rattle.rows.specs.declared.Field.the-variants.{Sli}
 use Rattle.rows.proofs.Tables.{joined}
 use Rattle.segments.specs.Segments.{sliceChecks, unbuiltChecks}

@@ -1,3 +1,4 @@
+-- `segments::tables::registration_row`: two tables, joined. Assumes nothing.
 use Prim.Native.Nat.{_+_, _*_}
 use Rattle.rows.specs.declared.Field.the-variants.{Crg, Lcrg}
 use Rattle.rows.proofs.Tables.{joined}

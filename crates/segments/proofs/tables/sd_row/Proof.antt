@@ -1,3 +1,4 @@
+-- `segments::tables::sd_row`: the table, with the value and the range that are read. Assumes nothing.
 use mathlib.Core.Path.{_∙_}
 use borrow.Author.Needs.{needs}
 use Rattle.segments.proofs.tables.sd_row.Statement.{statement}

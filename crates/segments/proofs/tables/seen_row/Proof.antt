@@ -1,5 +1,6 @@
-use mathlib.Core.Path.{_∙_}
+-- `segments::tables::seen_row`: the table of one check, of a count. Assumes nothing.
 use mathlib.Core.List.{[], _∷_}
+use mathlib.Core.Path.{_∙_}
 use Rattle.rows.specs.Rows.{check, first}
 use borrow.Author.Needs.{needs}
 use Rattle.segments.proofs.tables.seen_row.Statement.{statement}

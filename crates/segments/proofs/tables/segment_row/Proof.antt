@@ -1,3 +1,4 @@
+-- `segments::tables::segment_row`: the head, then the checks of the kind. Assumes nothing.
 use mathlib.Core.Path.{_∙_}
 use denote.Ref.{now}
 use Rattle.rows.specs.Rows.{first}

@@ -1,5 +1,6 @@
-use Rattle.rows.specs.declared.Row.the-variants.{Marker}
+-- `segments::tables::slice_row`: two tables, joined. Assumes nothing.
 use Rattle.rows.specs.declared.Field.the-variants.{Cdt, Wgt}
+use Rattle.rows.specs.declared.Row.the-variants.{Marker}
 use Rattle.rows.proofs.Tables.{joined}
 use Rattle.segments.specs.Segments.{seenChecks}
 use borrow.Author.Needs.{needs}

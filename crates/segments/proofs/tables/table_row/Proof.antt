@@ -1,3 +1,4 @@
+-- `segments::tables::table_row`: three tables, joined. Assumes nothing.
 use Prim.Native.Nat.{_+_, _*_}
 use mathlib.Core.List.{_++_}
 use denote.Ref.{now}

@@ -1,13 +1,14 @@
+-- `segments::tables::undecomposed_row`: three tables, joined. Assumes nothing.
 use Prim.Native.Nat.{_+_}
-use mathlib.Core.Path.{_∙_}
 use mathlib.Core.Bool.{cond}
 use mathlib.Core.List.{[], _∷_, _++_}
+use mathlib.Core.Path.{_∙_}
 use native.Mathlib.Omega.{arith}
 use denote.Ref.{now}
 use lib.Dec.{eqb, ltb, lit≤}
 use Rattle.rows.specs.Rows.{check, first}
-use Rattle.rows.specs.declared.Row.the-variants.{Marker}
 use Rattle.rows.specs.declared.Field.the-variants.{Cwd, Lcwd}
+use Rattle.rows.specs.declared.Row.the-variants.{Marker}
 use Rattle.rows.proofs.Tables.{joined}
 use Rattle.picture.specs.Segment.{lengthChecks}
 use Rattle.segments.specs.Segments.{counted, sdChecks}

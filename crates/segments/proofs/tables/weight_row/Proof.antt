@@ -1,14 +1,15 @@
+-- `segments::tables::weight_row`: four tables, joined, with the number of existing bands. Assumes nothing.
 use Prim.Native.Nat.{_+_, _*_}
-use mathlib.Core.Path.{_∙_}
 use mathlib.Core.List.{_++_}
+use mathlib.Core.Path.{_∙_}
 use denote.Ref.{now}
 use Rattle.rows.specs.Rows.{first}
-use Rattle.rows.specs.declared.Row.the-variants.{Lacking}
 use Rattle.rows.specs.declared.Field.the-variants.{Cdt, Wgt, Lwgt}
+use Rattle.rows.specs.declared.Row.the-variants.{Lacking}
 use Rattle.rows.proofs.Tables.{joined}
 use Rattle.picture.specs.Segment.{lengthChecks}
-use Rattle.segments.specs.Weights.{bandsIn, gainChecks}
 use Rattle.segments.specs.Segments.{onceChecks, seenChecks}
+use Rattle.segments.specs.Weights.{bandsIn, gainChecks}
 use borrow.Author.Needs.{needs}
 use Rattle.segments.proofs.tables.weight_row.Statement.{statement}
 use Rattle.segments.proofs.tables.weight_row.Tie as tie

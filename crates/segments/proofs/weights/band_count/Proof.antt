@@ -1,3 +1,4 @@
+-- `segments::weights::band_count`: the product of at most four and at most ten. Assumes nothing.
 use Prim.Native.Nat.{_*_}
 use mathlib.Core.Path.{_≡_}
 use native.Mathlib.Omega.{arith}

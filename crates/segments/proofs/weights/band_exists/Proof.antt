@@ -1,3 +1,4 @@
+-- `segments::weights::band_exists`: band b is of component b mod Nc and of filter type b / Nc. Assumes nothing.
 use Prim.Native.Nat.{_/_}
 use mathlib.Core.Path.{_∙_}
 use native.Mathlib.Omega.{arith}

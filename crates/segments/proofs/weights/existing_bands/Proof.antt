@@ -1,13 +1,14 @@
+-- `segments::weights::existing_bands`: the loop counts the existing bands among those passed. Assumes nothing.
 use Prim.Native.Nat.{_≤_, _-_}
-use mathlib.Core.Path.{_≡_, refl, _∙_}
 use mathlib.Core.Bool.{cond}
+use mathlib.Core.Path.{_≡_, refl, _∙_}
 use native.Mathlib.Omega.{arith}
 use denote.Ref.{now}
+use lib.Dec.{lit≤}
 use Rattle.segments.specs.Bands.{bands, existing}
 use Rattle.segments.specs.Weights.{bandIn}
 use Rattle.segments.proofs.BandLaws.{existing-more}
 use Rattle.segments.proofs.NumberLaws.{cond-le}
-use lib.Dec.{lit≤}
 use borrow.Author.Needs.{needs}
 use Rattle.segments.proofs.weights.existing_bands.Statement.{statement}
 use Rattle.segments.proofs.weights.existing_bands.Tie as tie

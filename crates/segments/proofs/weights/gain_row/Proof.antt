@@ -1,9 +1,10 @@
+-- `segments::weights::gain_row`: the table of one gain. Assumes nothing.
 use Prim.Native.Nat.{_+_, _*_}
-use mathlib.Core.Path.{_∙_}
 use mathlib.Core.List.{[], _∷_}
+use mathlib.Core.Path.{_∙_}
 use Rattle.rows.specs.Rows.{check, first}
-use Rattle.rows.specs.declared.Row.the-variants.{Value}
 use Rattle.rows.specs.declared.Field.the-variants.{G}
+use Rattle.rows.specs.declared.Row.the-variants.{Value}
 use borrow.Author.Needs.{needs}
 use Rattle.segments.proofs.weights.gain_row.Statement.{statement}
 use Rattle.segments.proofs.weights.gain_row.Tie as tie

@@ -1,6 +1,7 @@
+-- `header::captions::Caption::read`: each part is what its reader answers. Assumes nothing.
 use Prim.Native.Nat.{_-_}
-use mathlib.Core.Path.{_∙_}
 use mathlib.Core.Bool.{not, cond}
+use mathlib.Core.Path.{_∙_}
 use lib.Dec.{eqb}
 use borrow.Author.Needs.{needs}
 use Rattle.header.proofs.captions.Caption.read.Statement.{statement}

@@ -1,3 +1,4 @@
+-- `header::header::Header::none`: all is 0. Assumes nothing.
 use mathlib.Core.Bool.{false}
 use lib.ListN.{replicate}
 use borrow.Author.Needs.{needs}

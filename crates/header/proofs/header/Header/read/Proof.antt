@@ -1,3 +1,4 @@
+-- `header::header::Header::read`: each part is what its reader answers. Assumes nothing.
 use mathlib.Core.List.{[], _∷_}
 use borrow.Author.Needs.{needs}
 use Rattle.header.proofs.header.Header.read.Statement.{statement}

@@ -1,3 +1,4 @@
+-- `header::walk::Walk::begin`: nothing is seen yet. Assumes nothing.
 use mathlib.Core.Bool.{false}
 use Rattle.rows.specs.declared.Verdict.the-variants.{Fine}
 use borrow.Author.Needs.{needs}

@@ -1,11 +1,12 @@
+-- `picture::opening::Opening::read`: the opening's verdict is that of both tables, at the place that Lcap gives. Assumes nothing.
 use Prim.Native.Nat.{_+_}
 use mathlib.Core.Path.{_≡_, _∙_}
 use native.Mathlib.Omega.{arith}
 use denote.Ref.{now}
 use Rattle.rows.specs.Rows.{first}
 use Rattle.rows.proofs.Tables.{joined}
-use Rattle.picture.specs.Picture.{pictureAt}
 use Rattle.picture.specs.Opening.{startChecks, picturePlace, pictureChecks}
+use Rattle.picture.specs.Picture.{pictureAt}
 use borrow.Author.Needs.{needs}
 use Rattle.picture.proofs.opening.Opening.read.Statement.{statement}
 use Rattle.picture.proofs.opening.Opening.read.Tie as tie

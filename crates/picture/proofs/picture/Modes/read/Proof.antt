@@ -1,3 +1,4 @@
+-- `picture::picture::Modes::read`: each field is what its reader answers. Assumes nothing.
 use borrow.Author.Needs.{needs}
 use Rattle.picture.proofs.picture.Modes.read.Statement.{statement}
 use Rattle.picture.proofs.picture.Modes.read.Tie as tie

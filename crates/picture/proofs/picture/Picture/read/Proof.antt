@@ -1,3 +1,4 @@
+-- `picture::picture::Picture::read`: each field is what its reader answers. Assumes nothing.
 use borrow.Author.Needs.{needs}
 use Rattle.picture.proofs.picture.Picture.read.Statement.{statement}
 use Rattle.picture.proofs.picture.Picture.read.Tie as tie

@@ -1,3 +1,4 @@
+-- `segments::components::Component::read`: each part is what its reader answers. Assumes nothing.
 use borrow.Author.Needs.{needs}
 use Rattle.segments.proofs.components.Component.read.Statement.{statement}
 use Rattle.segments.proofs.components.Component.read.Tie as tie
