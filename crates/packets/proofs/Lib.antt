@@ -3,3 +3,4 @@ pub mod Lines
 pub mod LinePasses
 pub mod Stretches
 pub mod Laws
+pub mod Coefficients

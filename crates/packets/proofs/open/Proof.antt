@@ -28,9 +28,9 @@ returns c =
     let header = c .before .before .before .before .before .before .before .before .before .before .read .ensures .header in
     let parts = c .before .before .before .before .before .before .before .before .before .parts-of .ensures in
     let verdict =
-        head-table (now (a .s)) (a .c) (a .p) (a .slot) (a .at) header parts (a .raws) (c .before .before .before .bytes .ensures)
-        (c .before .before .before .before .before .before .before .before .bound-flag .ensures) (c .before .before .before .before .before .before .before .bound-flag2 .ensures) (c .before .before .before .before .before .before .choose .ensures)
-        (c .before .before .less .ensures) (c .before .less2 .ensures) (c .first .ensures) in
+    head-table (now (a .s)) (a .c) (a .p) (a .slot) (a .at) header parts (a .raws) (c .before .before .before .bytes .ensures)
+    (c .before .before .before .before .before .before .before .before .bound-flag .ensures) (c .before .before .before .before .before .before .before .bound-flag2 .ensures) (c .before .before .before .before .before .before .choose .ensures)
+    (c .before .before .less .ensures) (c .before .less2 .ensures) (c .first .ensures) in
     record {
       verdict = verdict;
       dr = λ i. header i .dr;
