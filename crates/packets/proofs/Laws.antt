@@ -1,16 +1,13 @@
 -- What a packet leaves, for the layers above: where it ends, and which cells it changes. Assumes nothing.
-use Prim.Native.Nat.{zero, suc, _^_}
+use mathlib.Core.Path.{_≡_, refl, ap, _∙_}
+use mathlib.Core.Bool.{Bool, true, false, cond}
+use mathlib.Core.List.{List, _++_}
+use Prim.Native.Nat.{ℕ, zero, suc, _+_, _-_, _*_, _^_, _≤_, _<_}
+use native.Mathlib.Omega.{arith}
 use borrow.Author.Tests.{eqb-true, eqb-false}
 use lib.Dec.{eqb}
 use lib.Pow.{pow-mono}
 use lib.Seq.{getD-set-same, getD-set-other}
-use Rattle.packets.specs.Ready.{Settled}
-use Rattle.packets.proofs.LinePasses.{T-most}
-use mathlib.Core.Path.{_≡_, refl, ap, _∙_}
-use mathlib.Core.Bool.{Bool, true, false, cond}
-use mathlib.Core.List.{List, _++_}
-use Prim.Native.Nat.{ℕ, _+_, _-_, _*_, _≤_, _<_}
-use native.Mathlib.Omega.{arith}
 use lib.IntN.{ℤ, pos, natAbs}
 use lib.ListN.{length, set, length-set}
 use Rattle.whole.specs.Cells.{cell, Bounded}
@@ -34,11 +31,12 @@ use Rattle.values.specs.Line.{placed, valueAt, lineValues}
 use Rattle.values.proofs.Laws.{value-small, line-length as values-length, line-other as values-other}
 use Rattle.packets.specs.declared.Setting.{Setting}
 use Rattle.packets.specs.declared.Precinct.{Precinct}
+use Rattle.packets.specs.Ready.{Settled, Slotted}
 use Rattle.packets.specs.Precincts.{T}
 use Rattle.packets.specs.Passes.{line, marks, codingOf, placeOf, Counting, counted, countTurn, packetCounts, valuesOf, valued, valueTurn, packetValues}
 use Rattle.packets.specs.Packets.{past, datAt, headChecks, countChecks, dataChecks, valuesBy, afterCounts, countsBy, packet}
-use Rattle.packets.specs.Ready.{Slotted}
 use Rattle.packets.specs.Steps.{countsOf}
+use Rattle.packets.proofs.LinePasses.{T-most}
 use Rattle.packets.proofs.Lines.{lies}
 use Rattle.packets.proofs.Stretches.{head-inside}
 
