@@ -4,3 +4,4 @@ pub mod LinePasses
 pub mod Stretches
 pub mod Laws
 pub mod Coefficients
+pub mod Examples
