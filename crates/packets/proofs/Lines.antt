@@ -119,6 +119,32 @@ lines-apart c p slot h j g x y k l there other m n e =
     let b : j / s .nc ≡ g / s .nc = omega (arith, same .0) in
     sym (div-add-mod' j (s .nc)) ∙ (λ t. b t * s .nc + same .1 t) ∙ div-add-mod' g (s .nc)
 
+stretches-apart : (s : Shape) (i i′ a b : ℕ) → start s i ≤ a → a < start s i + area s i → start s i′ ≤ b → b < start s i′ + area s i′ → a + area s i ≡ b → ⊥
+stretches-apart s i i′ a b low high low′ high′ e = pick (decLt i i′) (decLt i′ i)
+  where
+    pick : Dec (i < i′) → Dec (i′ < i) → ⊥
+    pick (yes l) after = omega (arith, starts-up s i i′ l)
+    pick (no l) (yes m) = omega (arith, starts-up s i′ i m)
+    pick (no l) (no m) =
+        let q : i′ ≡ i = omega arith in
+        omega (arith, ap (start s) q, ap (area s) q)
+
+-- and no count cell is a coefficient's
+pub counts-apart : (c : Setting) (p : Precinct) (slot : ℕ) → Slotted c p slot → (j g x y : ℕ) → j < candidates (c .shape) slot → g < candidates (c .shape) slot
+    → line c p slot j .present ≡ true → line c p slot g .present ≡ true → x < line c p slot j .width → y < line c p slot g .width
+    → line c p slot j .cell + x * line c p slot j .stride + line c p slot j .area ≡ line c p slot g .cell + y * line c p slot g .stride → ⊥
+unfolding line-at lineOf
+counts-apart c p slot h j g x y k l there other m n e =
+    let s = c .shape in
+    let built = h .settled .shape in
+    let fits = slot-fits s built slot j (h .which) k in
+    let fits′ = slot-fits s built slot g (h .which) l in
+    let i = mod-lt j (built .some) in
+    let i′ = mod-lt g (built .some) in
+    stretches-apart s (j % s .nc) (g % s .nc) _ _ (omega arith)
+    (line-inside s built (p .row) (p .column) (slot-type s slot + j / s .nc) (j % s .nc) (slot-line slot) (fits .0) i (fits .2) (h .column) there x m .1) (omega arith)
+    (line-inside s built (p .row) (p .column) (slot-type s slot + g / s .nc) (g % s .nc) (slot-line slot) (fits′ .0) i′ (fits′ .2) (h .column) other y n .1) e
+
 pub stride-some : (c : Setting) (p : Precinct) (slot j : ℕ) → 0 < line c p slot j .stride
 unfolding line-at lineOf
 stride-some c p slot j = pow-pos (dx (c .shape) (slot-type (c .shape) slot + j / c .shape .nc))
