@@ -1,10 +1,10 @@
 -- `packets::open` meets its contract. Assumes nothing.
-use native.Mathlib.Omega.{arith}
-use denote.Ref.{now}
 use mathlib.Core.Path.{sym, ap, _∙_}
-use Rattle.packets.proofs.Stretches.{head-table, head-inside}
-use Rattle.layout.proofs.Slots.{slots-most}
+use native.Mathlib.Omega.{arith}
 use borrow.Author.Needs.{needs}
+use denote.Ref.{now}
+use Rattle.layout.proofs.Slots.{slots-most}
+use Rattle.packets.proofs.Stretches.{head-table, head-inside}
 use Rattle.packets.proofs.open.Statement.{statement}
 use Rattle.packets.proofs.open.Tie as tie
 
