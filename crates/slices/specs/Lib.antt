@@ -1,0 +1,4 @@
+-- Annex A's slices and Annex C's precincts: from the first slice header to the end marker.
+pub mod Precinct
+pub mod Slice
+pub mod Stream

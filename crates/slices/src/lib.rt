@@ -1,0 +1,1 @@
+// From the first slice header to the end of the stream: slices and their precincts.
