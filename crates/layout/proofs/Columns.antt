@@ -9,11 +9,12 @@ use borrow.Author.Tests.{lt-ltb, le-ltb}
 use lib.Dec.{ltb}
 use lib.Pow.{pow-pos, pow-mono}
 use Rattle.whole.specs.Numbers.{ceilDiv}
+use Rattle.wavelet.proofs.Halves.{below-size}
 use Rattle.layout.specs.declared.Shape.{Shape}
 use Rattle.layout.specs.Bands.{sx, sy}
 use Rattle.layout.specs.Precincts.{largest, Cs, Npx, Npy, slices}
 use Rattle.layout.specs.Built.{Built, Sampled}
-use Rattle.layout.proofs.Shapes.{ceil-most, ceil-some}
+use Rattle.layout.proofs.Sizes.{ceil-most, ceil-some}
 
 -- ---- the largest sampling factor
 
@@ -102,3 +103,8 @@ module _ (s : Shape) (built : Built s) where
   pub slices-most : slices s ≤ 16384
   unfolding slices
   slices-most = omega (arith, ceil-most (Npy s) (s .hsl) (built .slice), Npy-most)
+
+  -- a column starts inside the picture
+  pub column-inside : (column : ℕ) → column < Npx s → column * Cs s < s .wf
+  unfolding Npx
+  column-inside column h = below-size (Cs-range .0) (s .wf) column h

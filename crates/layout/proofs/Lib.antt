@@ -3,4 +3,5 @@ pub mod Sizes
 pub mod Filters
 pub mod Shapes
 pub mod Columns
+pub mod Sums
 pub mod Tables

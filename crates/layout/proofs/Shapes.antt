@@ -1,7 +1,6 @@
 -- What a built shape says of its components and bands. Assumes nothing.
 use mathlib.Core.Path.{_≡_, refl, sym, ap, _∙_}
 use Prim.Native.Nat.{ℕ, zero, suc, _+_, _*_, _-_, _/_, _%_, _^_, _≤_, _<_, min}
-use native.Mathlib.Nat.{div-eq-of-lt, div-le-of-le-mul, le-div-iff-mul-le, mul-le-mul-right, mul-suc, one-mul}
 use native.Mathlib.Omega.{arith}
 use Rattle.whole.specs.Numbers.{ceilDiv}
 use Rattle.layout.specs.declared.Shape.{Shape}
@@ -9,17 +8,8 @@ use Rattle.layout.specs.declared.bands.Component.{Component}
 use Rattle.layout.specs.Bands.{sx, sy, Wc, Hc, N′y, kind, dx, dy, depth, filters}
 use Rattle.layout.specs.Built.{Built, Sampled}
 use Rattle.layout.specs.Sizes.{component-of, SmallComponent, own-filter, SmallFilter}
+use Rattle.layout.proofs.Sizes.{ceil-most, ceil-some}
 use Rattle.layout.proofs.Filters.{filter-small, across-most, down-most, τx-most, τy-most}
-
--- ---- ceilings
-
--- at most the number itself, and at least 1 of a number that is not 0
-pub ceil-most : (e m : ℕ) → 0 < m → ceilDiv e m ≤ e
-ceil-most zero m h = omega (arith, div-eq-of-lt {n = 0 + (m - 1)} {m = m} (omega arith))
-ceil-most (suc e) m h = div-le-of-le-mul m (omega (arith, mul-le-mul-right e h, mul-suc m e, one-mul e))
-
-pub ceil-some : (e m : ℕ) → 0 < e → 0 < m → 1 ≤ ceilDiv e m
-ceil-some e m h k = le-div-iff-mul-le k .1 (omega arith)
 
 -- ---- components
 

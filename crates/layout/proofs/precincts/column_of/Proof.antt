@@ -7,7 +7,7 @@ use native.Mathlib.Omega.{arith}
 use borrow.Author.Needs.{needs}
 use borrow.Author.Tests.{lt-ltb, le-ltb}
 use Rattle.layout.specs.Precincts.{Cs, Npx, Wp}
-use Rattle.layout.proofs.Columns.{Npx-most}
+use Rattle.layout.proofs.Columns.{Npx-most, column-inside}
 use Rattle.layout.proofs.precincts.column_of.Statement.{statement}
 use Rattle.layout.proofs.precincts.column_of.Tie as tie
 
@@ -27,16 +27,17 @@ returns c =
     let e = c .before .before .before .before in
     let s = e .args .s in
     let w = c .before .before .before .column-width .ensures in
+    let x : c .before .product .result ≡ e .args .column * Cs s = c .before .product .ensures .0 ∙ ap (λ (k : ℕ). e .args .column * k) (w .is) in
     let test : e .args .column < Npx s - 1 = omega (arith, c .if1 .taken, c .before .before .precinct-columns .ensures .0) in
     record {
       is =
           λ i.
           record {
-            x = (c .before .product .ensures .0 ∙ ap (λ (k : ℕ). e .args .column * k) (w .is)) i;
+            x = x i;
             width = (w .is ∙ (λ j. cond (sym (lt-ltb (e .args .column) (Npx s - 1) test) j) (Cs s) ((s .wf - 1) % Cs s + 1))) i;
           };
-      small = c .before .product .ensures .1;
-      narrow = omega (arith, w .few);
+      small = omega (arith, x, column-inside s (e .pre .0) (e .args .column) (e .pre .1), e .pre .0 .narrow);
+      narrow = w .few;
     }
 
 sub-t6 : tie.Need-sub-t6
@@ -56,17 +57,18 @@ returns-2 c =
     let e = c .before .before .before .before .before in
     let s = e .args .s in
     let w = c .before .before .before .before .column-width .ensures in
+    let x : c .before .before .product .result ≡ e .args .column * Cs s = c .before .before .product .ensures .0 ∙ ap (λ (k : ℕ). e .args .column * k) (w .is) in
     let test : Npx s - 1 ≤ e .args .column = omega (arith, c .before .if1 .left, c .before .before .before .precinct-columns .ensures .0) in
     record {
       is =
           λ i.
           record {
-            x = (c .before .before .product .ensures .0 ∙ ap (λ (k : ℕ). e .args .column * k) (w .is)) i;
+            x = x i;
             width =
                 (ap (λ (k : ℕ). (s .wf - 1) % k + 1) (w .is)
                 ∙ (λ j. cond (sym (le-ltb (e .args .column) (Npx s - 1) test) j) (Cs s) ((s .wf - 1) % Cs s + 1))) i;
           };
-      small = c .before .before .product .ensures .1;
+      small = omega (arith, x, column-inside s (e .pre .0) (e .args .column) (e .pre .1), e .pre .0 .narrow);
       narrow = omega (arith, mod-le (s .wf - 1) (c .before .before .before .before .column-width .result), e .pre .0 .narrow);
     }
 
