@@ -2,3 +2,5 @@
 pub mod Precinct
 pub mod Slice
 pub mod Stream
+pub mod Steps
+pub mod Stub
