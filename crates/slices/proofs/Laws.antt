@@ -24,7 +24,10 @@ use Rattle.packets.specs.declared.Precinct.{Precinct}
 use Rattle.packets.specs.Precincts.{D}
 use Rattle.packets.specs.Ready.{Settled, Standing}
 use Rattle.packets.specs.Packets.{anyLine, head, past, packet, sigAt, cntAt, datAt, sgnAt, Lsig, Lsign, headChecks, countChecks, dataChecks, signChecks, countsBy, afterCounts, valuesBy, afterValues, raw}
-use Rattle.packets.specs.Passes.{packetCounts, packetValues}
+use Rattle.packets.specs.Passes.{packetCounts}
+use Rattle.packets.specs.Precincts.{stretch}
+use Rattle.counts.specs.declared.Line.{Line as Counted}
+use Rattle.counts.specs.declared.Line.the-variants.{Done, Cut as CountsCut, High}
 use Rattle.layout.specs.Slots.{slots, candidates}
 use Rattle.layout.specs.Built.{Built}
 use lib.IntN.{ℤ}
@@ -51,6 +54,10 @@ topCheck s at bit exists = cond exists (check Mode (at + bit / 8) ModeField (fie
 
 abbrev pub topChecks : List ℕ → Shape → ℕ → ℕ → List Check
 topChecks s shape at b = topCheck s at (mode-bit shape b) (band-exists shape b)
+
+pub on : (b : Bool) → not b ≡ false → b ≡ true
+on true e = refl
+on false e = sym e
 
 pub off : (b : Bool) → not b ≡ true → b ≡ false
 off true e = sym e
@@ -105,3 +112,38 @@ module _ (s : List ℕ) (c : Setting) (row column place slot at : ℕ) (raws : L
   pub packet-absent : anyLine c p slot (candidates (c .shape) slot) ≡ false → packetTurn s c row column place slot (at, raws, cells) ≡ go (at, raws, cells)
   unfolding packetTurn
   packet-absent none = rw ((λ i. anyLine c (sym (e .is) i) slot (candidates (c .shape) slot)) ∙ none)
+
+clash : {A : Type 0} {k : Check} → Refused k ≡ Fine → A
+clash e = let z : _≡_ {A = ℕ} 0 1 = cc in absurd (omega arith)
+
+refused : {A : Type 0} {k : Check} {cells cells′ : List ℤ} → _≡_ {A = Verdict × List ℤ} (Refused k, cells) (Fine, cells′) → A
+refused e = clash (λ i. e i .0)
+
+-- a packet that is accepted ends in its precinct
+module _ (s : List ℕ) (c : Setting) (p : Precinct) (slot at : ℕ) (inside : at ≤ p .end) (raws : List ℕ) (cells cells′ : List ℤ) where
+  data-inside : (v : Verdict) (need next : ℕ) → datAt s c p slot at ≤ p .end → first (dataChecks s c p slot at (Done next need)) ≡ v → (rest : List ℤ) → valuesBy s c p slot at v rest ≡ (Fine, cells′)
+      → past s c p slot at ≤ p .end
+  data-inside (Refused k) need next h e rest f = refused f
+  data-inside Fine need next h e rest f =
+      let d = held (dataChecks s c p slot at (Done next need)) e in
+      omega (arith, h, d .0 .least, d .1 .1 .0 .least)
+
+  counts-inside : (x : Counted × List ℤ) → datAt s c p slot at ≤ p .end → afterCounts s c p slot at x ≡ (Fine, cells′) → past s c p slot at ≤ p .end
+  counts-inside (Done next need, rest) h f = data-inside _ need next h refl rest f
+  counts-inside (CountsCut, rest) h f = by _ refl f
+    where
+      by : (v : Verdict) → first (countChecks s c p slot at CountsCut) ≡ v → valuesBy s c p slot at v rest ≡ (Fine, cells′) → past s c p slot at ≤ p .end
+      by (Refused k) e f = refused f
+      by Fine e f = absurd (omega (arith, held (countChecks s c p slot at CountsCut) e .0 .least))
+  counts-inside (High, rest) h f = refused f
+
+  pub packet-inside : packet s c p slot at raws cells ≡ (Fine, cells′) → past s c p slot at ≤ p .end
+  unfolding packet
+  packet-inside f = by _ refl f
+    where
+      by : (v : Verdict) → first (headChecks s c p slot at raws) ≡ v → countsBy s c p slot at v cells ≡ (Fine, cells′) → past s c p slot at ≤ p .end
+      by (Refused k) e f = refused f
+      by Fine e f =
+          let h = held (headChecks s c p slot at raws) e in
+          counts-inside (packetCounts s c p slot (stretch s (cntAt s c p slot at) (head s c p slot at .lcnt)) (stretch s (sigAt s c p slot at) (Lsig s c p slot at)) (raw s c p slot at) cells)
+          (omega (arith, inside, h .0 .least, h .1 .1 .1 .0 .least, h .1 .1 .1 .1 .0 .least)) f

@@ -93,10 +93,10 @@ module _ (s : List ℕ) (c : Setting) (row column at : ℕ) where
 abbrev pub holds : Setting → Precinct → ℕ → Bool
 holds c p b = band-exists (c .shape) b && ltb 0 (lines (c .shape) (p .row) (b / c .shape .nc) (b % c .shape .nc))
 
-abbrev pub raisedAt : Setting → Precinct → List ℕ → ℕ → ℕ
-raisedAt c p tops b = cond (holds c p b) (max (getD tops b 0) (T c p b)) (getD tops b 0)
+abbrev pub raisedBy : Setting → Precinct → ℕ → ℕ → ℕ
+raisedBy c p b top = cond (holds c p b) (max top (T c p b)) top
 
 -- of the bands below n
 unfoldable pub raised : Setting → Precinct → ℕ → List ℕ → List ℕ
 raised c p zero tops = tops
-raised c p (suc n) tops = set (raised c p n tops) n (raisedAt c p tops n)
+raised c p (suc n) tops = set (raised c p n tops) n (raisedBy c p n (getD tops n 0))

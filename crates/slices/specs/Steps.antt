@@ -8,13 +8,16 @@ use lib.ListN.{length}
 use Rattle.loops.specs.Run.{Turn, go, stop}
 use Rattle.rows.specs.declared.Verdict.{Verdict}
 use Rattle.rows.specs.declared.Verdict.the-variants.{Fine, Refused}
-use Rattle.layout.specs.Precincts.{Npx, Npy}
+use Rattle.layout.specs.Bands.{NL}
+use Rattle.layout.specs.Precincts.{Npx, Npy, Np, slices}
 use Rattle.layout.specs.Cells.{start}
 use Rattle.packets.specs.declared.Setting.{Setting}
 use Rattle.packets.specs.declared.Precinct.{Precinct}
 use Rattle.packets.specs.Ready.{Settled, Standing}
 use Rattle.slices.specs.declared.precincts.Flags.{Flags}
-use Rattle.slices.specs.Precinct.{precinctAt, packetTurn, body, Packing}
+use Rattle.slices.specs.declared.Reading.{Reading}
+use Rattle.slices.specs.Precinct.{precinctAt, packetTurn, raised}
+use Rattle.slices.specs.Slice.{State, Left, precinctTurn}
 
 -- ---- what is asked
 
@@ -41,3 +44,26 @@ pub record IsPrecinct (s : List ℕ) (c : Setting) (row column at : ℕ) (p : Pr
 abbrev pub onward : Verdict → ℕ → List ℕ → List ℤ → Turn (ℕ × List ℕ × List ℤ) (Verdict × List ℤ)
 onward Fine at raws cells = go (at, raws, cells)
 onward (Refused k) at raws cells = stop (Refused k, cells)
+
+pub record Passed (s : List ℕ) (c : Setting) (p : Precinct) (slot place : ℕ) (raws : List ℕ) (cells : List ℤ) (f : Flags) (cells′ : List ℤ) : Type 0 where
+  pub turn : packetTurn s c (p .row) (p .column) (p .at) slot (place, raws, cells) ≡ onward (f .verdict) (f .at) (f .raws) cells′
+  pub inside : f .verdict ≡ Fine → f .at ≤ p .end
+
+-- where the reading stands behind a precinct that is accepted, or refused
+abbrev pub behind : Verdict → Setting → Precinct → ℕ → List ℕ → Reading
+behind Fine c p at tops = record { verdict = Fine; at = p .end; tops = raised c p (NL (c .shape)) tops }
+behind (Refused k) c p at tops = record { verdict = Refused k; at = at; tops = tops }
+
+-- a precinct goes on with the reading, or refuses with it
+abbrev pub further : Verdict → State → Turn State Left
+further Fine x = go x
+further (Refused k) x = stop (Refused k, x)
+
+pub record Turned (s : List ℕ) (turn : Turn State Left) (r : Reading) (cells′ : List ℤ) : Type 0 where
+  pub is : turn ≡ further (r .verdict) (r .at, r .tops, cells′)
+  pub inside : r .verdict ≡ Fine → r .at ≤ length s
+
+-- a slice, or its precincts
+pub record Read (s : List ℕ) (left : Left) (r : Reading) (cells′ : List ℤ) : Type 0 where
+  pub is : left ≡ (r .verdict, (r .at, r .tops, cells′))
+  pub inside : r .verdict ≡ Fine → r .at ≤ length s

@@ -20,13 +20,14 @@ ghost use Prim.Native.Nat.{_+_, _*_, _-_, _/_, _%_, _≤_, _<_, _^_};
 ghost use lib.ListN.{length};
 ghost use Rattle.bits.specs.Fields.{field};
 ghost use Rattle.rows.specs.Rows.{check, first, each};
+ghost use Rattle.rows.specs.declared.Verdict.the-variants.{Fine};
 ghost use Rattle.rows.specs.declared.Row.the-variants.{Mode, Length};
 ghost use Rattle.rows.specs.declared.Field.the-variants.{D as ModeField, Rest};
 ghost use Rattle.layout.specs.Bands.{NL};
 ghost use Rattle.layout.specs.Slots.{slots};
 ghost use Rattle.packets.specs.Ready.{Settled, Standing};
-ghost use Rattle.slices.specs.Precinct.{fieldChecks, modeChecks, headerChecks, packetTurn, restChecks, packets, packetsBy, precinct};
-ghost use Rattle.slices.specs.Steps.{Lent, Placed, IsPrecinct, onward};
+ghost use Rattle.slices.specs.Precinct.{fieldChecks, modeChecks, headerChecks, restChecks, packets, packetsBy, precinct};
+ghost use Rattle.slices.specs.Steps.{Lent, Placed, IsPrecinct, Passed};
 
 // What a slot of a precinct leaves beside the cells: the verdict, the next place, and the raw flags of the slots so far.
 pub struct Flags {
@@ -129,7 +130,7 @@ fn packet_turn(
     raws: [usize; 10],
 ) -> Flags
     requires { ⌜ Settled c × Standing (now s) c p (length (now cells)) × (at ≤ p .end) × (slot < slots (c .shape)) × IsPrecinct (now s) c (p .row) (p .column) (p .at) p ⌝ }
-    ensures { λ r. ⌜ packetTurn (now (s .entry)) c (p .row) (p .column) (p .at) slot (at, raws, now (cells .entry)) ≡ onward (r .verdict) (r .at) (r .raws) (now (cells .exit)) ⌝ }
+    ensures { λ r. ⌜ Passed (now (s .entry)) c p slot at raws (now (cells .entry)) r (now (cells .exit)) ⌝ }
 {
     if any_line(c, p, slot) {
         let o = crate::stub::packet(s, cells, c, p, slot, at, raws);
@@ -154,4 +155,51 @@ fn rest_row(p: Precinct, place: usize) -> Verdict
     ensures { λ r. ⌜ r ≡ first (check Length (p .at) Rest (p .end - place) 0 0 ∷ []) ⌝ }
 {
     rows::one(Check(Row::Length, p.at, Field::Rest, p.end - place, 0, 0))
+}
+
+// The packets, which stand behind the header and fill the precinct.
+fn packets(s: &[u8], cells: &mut [i64], c: Setting, p: Precinct) -> Verdict
+    requires { ⌜ Settled c × Standing (now s) c p (length (now cells)) × IsPrecinct (now s) c (p .row) (p .column) (p .at) p ⌝ }
+    ensures { λ r. ⌜ packets (now (s .entry)) c (p .row) (p .column) (p .at) (now (cells .entry)) ≡ (r, now (cells .exit)) ⌝ }
+{
+    let shape = c.shape;
+    let n = slot_count(shape);
+    let mut at = p.end - bits::u24_at(s, p.at);
+    let mut raws: [usize; 10] = [0; 10];
+    let mut slot = 0;
+    while slot < n {
+        let f = packet_turn(s, cells, c, p, slot, at, raws);
+        let v = f.verdict;
+        match v {
+            Verdict::Fine => {
+                at = f.at;
+                let flags = f.raws;
+                raws = flags;
+            }
+            Verdict::Refused(_) => {
+                return v;
+            }
+        }
+        slot += 1;
+    }
+    rest_row(p, at)
+}
+
+fn packets_by(v: Verdict, s: &[u8], cells: &mut [i64], c: Setting, p: Precinct) -> Verdict
+    requires { ⌜ Settled c × (v ≡ Fine → Standing (now s) c p (length (now cells))) × IsPrecinct (now s) c (p .row) (p .column) (p .at) p ⌝ }
+    ensures { λ r. ⌜ packetsBy (now (s .entry)) c (p .row) (p .column) (p .at) v (now (cells .entry)) ≡ (r, now (cells .exit)) ⌝ }
+{
+    match v {
+        Verdict::Fine => packets(s, cells, c, p),
+        Verdict::Refused(_) => v,
+    }
+}
+
+// A precinct, `top` where it stands in the top row of its slice.
+pub fn precinct(s: &[u8], cells: &mut [i64], c: Setting, p: Precinct, top: bool) -> Verdict
+    requires { ⌜ Lent (now s) c (p .at) (length (now cells)) × Placed (now s) c p top × IsPrecinct (now s) c (p .row) (p .column) (p .at) p ⌝ }
+    ensures { λ r. ⌜ precinct (now (s .entry)) c (p .row) (p .column) (p .at) top (now (cells .entry)) ≡ (r, now (cells .exit)) ⌝ }
+{
+    let v = header_row(s, c, p, top);
+    packets_by(v, s, cells, c, p)
 }

@@ -8,10 +8,10 @@ use Rattle.rows.proofs.Tables.{each-none, each-more}
 use Rattle.layout.specs.Headers.{mode-bit}
 use Rattle.layout.proofs.Sums.{one-most, modes-next}
 use lib.Dec.{lit≤}
-use Rattle.layout.specs.Bands.{NL}
+use Rattle.layout.specs.Bands.{NL, band-exists}
 use Rattle.layout.specs.Headers.{modes}
 use Rattle.slices.specs.Precinct.{modeChecks}
-use Rattle.slices.proofs.Laws.{topCheck, topChecks, top-modes, free-modes, two-if, off}
+use Rattle.slices.proofs.Laws.{topCheck, topChecks, top-modes, free-modes, two-if, on, off}
 use borrow.Author.Needs.{needs}
 use Rattle.slices.proofs.precincts.mode_rows.Statement.{statement}
 use Rattle.slices.proofs.precincts.mode_rows.Tie as tie
@@ -45,22 +45,22 @@ loop-again : tie.Need-loop-again Inv-loop μ-loop
 loop-again c =
     let l = c .before .before .before .before .before .loop in
     let a = c .before .before .before .before .before .before .before .before .before .before .args in
-    let two = two-if (c .before .before .before .band-exists .result) (c .choose .ensures) in
     let e = c .before .before .before .band-exists .ensures in
+    let two = two-if (band-exists (a .c .shape) (l .b)) (c .choose .ensures ∙ (λ i. cond (e i) 2 0)) in
     let row = c .before .before .mode-row .ensures ∙ (λ i. first (topCheck (now (a .s)) (a .p .at) (l .inv .1 i) (e i))) in
     (
       omega (arith, c .before .before .before .before .loop-test .taken),
-      omega (arith, two .0, l .inv .1, modes-next (a .c .shape) (l .before), (λ i. cond (e i) 1 0)),
+      omega (arith, two .0, l .inv .1, modes-next (a .c .shape) (l .b)),
       omega (arith, l .inv .2, two .1),
-      each-more (l .before) (topChecks (now (a .s)) (a .c .shape) (a .p .at)) (c .before .then .ensures) (l .inv .3) row,
+      each-more (l .b) (topChecks (now (a .s)) (a .c .shape) (a .p .at)) (c .before .then .ensures) (l .inv .3) row,
     )
 
 returns-2 : tie.Need-returns-2 Inv-loop μ-loop
 returns-2 c =
     let l = c .before .loop in
     let a = c .before .before .before .before .before .before .args in
-    let top = c .before .before .before .before .if1 .left in
-    let e : l .before ≡ NL (a .c .shape) = omega (arith, c .loop-test .left, l .inv .0, c .before .before .band-count .ensures .0) in
+    let top = on (a .top) (c .before .before .before .before .if1 .left) in
+    let e : l .b ≡ NL (a .c .shape) = omega (arith, c .loop-test .left, l .inv .0, c .before .before .band-count .ensures .0) in
     l .inv .3
     ∙ (λ i. first (each (e i) (topChecks (now (a .s)) (a .c .shape) (a .p .at))))
     ∙ top-modes (now (a .s)) (a .c) (a .p .row) (a .p .column) (a .p .at) (NL (a .c .shape))

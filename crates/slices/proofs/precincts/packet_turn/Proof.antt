@@ -1,36 +1,47 @@
-use mathlib.Core.Path.{_≡_, sym, _∙_}
-use native.Mathlib.Omega.{arith}
-use denote.Ref.{now}
-use Rattle.slices.proofs.Laws.{slots-most, packet-there, packet-absent}
 use borrow.Author.Needs.{needs}
 use Rattle.slices.proofs.precincts.packet_turn.Statement.{statement}
 use Rattle.slices.proofs.precincts.packet_turn.Tie as tie
+use Rattle.slices.proofs.precincts.packet_turn.Reads as reads
+use Rattle.slices.proofs.precincts.packet_turn.Lts as lts
+use Rattle.slices.proofs.stub.any_line.Reads as any-line-reads
+use Rattle.slices.proofs.stub.packet.Reads as packet-reads
 
+-- src/precincts.rt:135:8
 any-line-requires : tie.Need-any-line-requires
-any-line-requires c κs =
-    let h = c .before .pre in
-    record { settled = h .0; row = h .1 .row; column = h .1 .column; one = h .3 }
+any-line-requires c κs = search needs
 
+-- src/precincts.rt:136:13
+packet-requires : tie.Need-packet-requires
+packet-requires c κs = search needs
+
+-- src/precincts.rt:139:9
 mul-flags : tie.Need-mul-flags
-mul-flags c =
-    let h = c .before .before .before .before .before .before .pre in
-    omega (arith, h .3, slots-most (c .before .before .before .before .before .before .args .c .shape) (h .0 .shape))
+mul-flags c = search needs
 
+-- src/precincts.rt:139:9
 array-write-flags : tie.Need-array-write-flags
-array-write-flags c =
-    let h = c .before .before .before .before .before .before .pre in
-    omega (arith, h .3, slots-most (c .before .before .before .before .before .before .args .c .shape) (h .0 .shape))
+array-write-flags c = search needs
 
+-- src/precincts.rt:140:9
+same-length : tie.Need-same-length
+same-length c = search needs
+
+-- src/precincts.rt:140:9
 returns : tie.Need-returns
-returns c =
-    let a = c .before .before .before .before .before .before .args in
-    let o = c .before .packet .ensures in
-    packet-there (now (a .s)) (a .c) (a .p .row) (a .p .column) (a .p .at) (a .slot) (a .at) (a .raws) (now (a .cells)) (c .before .before .before .before .before .before .pre .4) (sym (c .before .before .before .before .any-line .ensures) ∙ c .before .before .before .if1 .taken) (o .left) (o .dr) (o .past)
+returns c = search needs
 
+-- src/precincts.rt:123:1
 returns-2 : tie.Need-returns-2
-returns-2 c =
-    let a = c .before .before .before .args in
-    packet-absent (now (a .s)) (a .c) (a .p .row) (a .p .column) (a .p .at) (a .slot) (a .at) (a .raws) (now (a .cells)) (c .before .before .before .pre .4) (sym (c .before .any-line .ensures) ∙ c .if1 .left)
+returns-2 c = search needs
 
 pub packet-turn-spec : {M : Type 1} → statement M
-packet-turn-spec = tie.close (tie.spec any-line-requires (λ c κs. search needs) mul-flags array-write-flags (λ c. search needs) returns returns-2)
+packet-turn-spec =
+    tie.close
+    (tie.spec
+    any-line-requires
+    packet-requires
+    mul-flags
+    array-write-flags
+    same-length
+    returns
+    returns-2)
