@@ -110,7 +110,7 @@ split-sum : (NLx NLy β f q m tx ty : ℕ) → NLy ≤ NLx → f ≡ NLx - NLy +
     → NLx - NLy + tx + 2 * ty + 3 * (NLy - (NLy - q)) ≡ β
 split-sum NLx NLy β f q m tx ty h e b l t = omega arith
 
-across-sum : (NLx NLy β f : ℕ) → NLy ≤ NLx → f ≡ NLx - NLy + 1 → (β ≡ 0 → ⊥) → β < f → (NLy < NLx + 1 - β) × (NLx - (NLx + 1 - β) + 1 ≡ β)
+pub across-sum : (NLx NLy β f : ℕ) → NLy ≤ NLx → f ≡ NLx - NLy + 1 → (β ≡ 0 → ⊥) → β < f → (NLy < NLx + 1 - β) × (NLx - (NLx + 1 - β) + 1 ≡ β)
 across-sum NLx NLy β f h e n l = (omega arith, omega arith)
 
 pub first-is : (NLx NLy : ℕ) → NLy ≤ NLx → first-types NLx NLy ≡ NLx - NLy + 1

@@ -4,6 +4,6 @@ pub mod Precincts
 pub mod Packets
 pub mod Headers
 pub mod Built
-pub mod Sizes
 pub mod Cells
 pub mod Slots
+pub mod Sizes

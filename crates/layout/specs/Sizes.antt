@@ -14,8 +14,10 @@ use Rattle.layout.specs.declared.bands.Band.{Band}
 use Rattle.layout.specs.declared.precincts.Column.{Column}
 use Rattle.layout.specs.declared.lines.Reach.{Reach}
 use Rattle.layout.specs.declared.lines.Span.{Span}
+use Rattle.layout.specs.declared.lines.Slot.{Slot}
 use Rattle.layout.specs.Bands.{sx, sy, Wc, Hc, N′y, letters-of, across-of, down-of, kind, dx, depth, exists}
 use Rattle.layout.specs.Precincts.{Cs, Wp, largest, by-letter}
+use Rattle.layout.specs.Slots.{slot-type, slot-types, slot-line}
 
 -- r is 2^k, a power that a depth can have
 pub record Power (k r : ℕ) : Type 0 where
@@ -90,8 +92,8 @@ reach-of b row l =
     record {
       y = row * 2 ^ (b .part .ny - b .filter .dy) + l / b .part .sy;
       present =
-        b .exists && eqb (l % b .part .sy) 0
-        && ltb (row * 2 ^ (b .part .ny - b .filter .dy) + l / b .part .sy) (by-letter (b .filter .ty) (low-size (b .part .h) (b .filter .dy)) (high-size (b .part .h) (b .filter .dy)));
+          b .exists && eqb (l % b .part .sy) 0
+          && ltb (row * 2 ^ (b .part .ny - b .filter .dy) + l / b .part .sy) (by-letter (b .filter .ty) (low-size (b .part .h) (b .filter .dy)) (high-size (b .part .h) (b .filter .dy)));
     }
 
 abbrev pub span-of : Band → Column → Span
@@ -112,3 +114,6 @@ pub record IsSpan (b : Band) (c : Column) (r : Span) : Type 0 where
   pub is : r ≡ span-of b c
   pub small : r .x ≤ 16384
   pub narrow : r .width < 2 ^ 26
+
+abbrev pub slot-of : Shape → ℕ → Slot
+slot-of s k = record { first = slot-type s k; types = slot-types s k; line = slot-line k }

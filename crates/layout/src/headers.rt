@@ -1,7 +1,10 @@
 // The fields of a precinct header that stand once for each band (Table C.1), and what they make of a band's weights (Table C.12).
-use crate::bands::band_of;
-use crate::numbers::{ceil_div, less, power, smaller};
 use crate::Shape;
+use crate::bands::band_of;
+use crate::numbers::ceil_div;
+use crate::numbers::less;
+use crate::numbers::power;
+use crate::numbers::smaller;
 ghost use mathlib.Core.Path.{_≡_};
 ghost use mathlib.Core.Bool.{cond};
 ghost use Prim.Native.Nat.{_+_, _*_, _<_, _≤_, _^_};

@@ -1,8 +1,16 @@
 // The packets that a precinct can have ("slots"), the lines of each, and the cells in which their coefficients lie.
-use crate::bands::{band_of, component_of, Band};
-use crate::numbers::{ceil_div, place, power, product, size};
-use crate::precincts::{column_of, Column};
-use crate::{Line, Shape};
+use crate::Line;
+use crate::Shape;
+use crate::bands::Band;
+use crate::bands::band_of;
+use crate::bands::component_of;
+use crate::numbers::ceil_div;
+use crate::numbers::place;
+use crate::numbers::power;
+use crate::numbers::product;
+use crate::numbers::size;
+use crate::precincts::Column;
+use crate::precincts::column_of;
 ghost use mathlib.Core.Path.{_≡_};
 ghost use Prim.Native.Nat.{_+_, _*_, _-_, _<_, _≤_, _^_};
 ghost use Rattle.layout.specs.Bands.{Nβ, dy};
@@ -10,7 +18,7 @@ ghost use Rattle.layout.specs.Built.{Built};
 ghost use Rattle.layout.specs.Precincts.{Npx, Npy};
 ghost use Rattle.layout.specs.Cells.{area, samples};
 ghost use Rattle.layout.specs.Slots.{slots, slot-type, slot-types, slot-line, candidates, line, line-at};
-ghost use Rattle.layout.specs.Sizes.{SmallBand, inner-of, IsReach, IsSpan};
+ghost use Rattle.layout.specs.Sizes.{SmallBand, inner-of, IsReach, IsSpan, slot-of};
 
 // A line's row in its band, and whether the precinct has it.
 pub struct Reach {
@@ -83,4 +91,86 @@ fn cell_of(b: Band, x: usize, y: usize) -> usize
     let p = b.part;
     let top = place(f.ty, f.dy, y);
     product(top, p.w) + place(f.tx, f.dx, x)
+}
+
+// A slot: its first filter type, how many it has, and its line.
+pub struct Slot {
+    pub first: usize,
+    pub types: usize,
+    pub line: usize,
+}
+
+pub fn slot_count(s: Shape) -> usize
+    requires { ⌜ Built s ⌝ }
+    ensures { λ r. ⌜ (r ≡ slots s) × (r ≤ 10) ⌝ }
+{
+    1 + 3 * (power(s.nly) - 1)
+}
+
+fn slot_of(s: Shape, k: usize) -> Slot
+    requires { ⌜ Built s × (k < slots s) ⌝ }
+    ensures { λ r. ⌜ r ≡ slot-of s k ⌝ }
+{
+    let first = s.nlx - s.nly + 1;
+    if k == 0 {
+        return Slot {
+            first: 0,
+            types: first,
+            line: 0,
+        };
+    }
+    let turn = (k - 1) / 3 + 1;
+    let level = turn / 2;
+    Slot {
+        first: first + 3 * level + (k - 1) % 3,
+        types: 1,
+        line: turn - power(level),
+    }
+}
+
+// How many lines slot k of a precinct can have.
+pub fn candidate_count(s: Shape, k: usize) -> usize
+    requires { ⌜ Built s × (k < slots s) ⌝ }
+    ensures { λ r. ⌜ (r ≡ candidates s k) × (r ≤ 24) ⌝ }
+{
+    let slot = slot_of(s, k);
+    slot.types * s.nc
+}
+
+// Line l of a band in a precinct.
+fn line_of(s: Shape, row: usize, column: usize, beta: usize, i: usize, l: usize) -> Line
+    requires { ⌜ Built s × (row < Npy s) × (column < Npx s) ⌝ }
+    requires { ⌜ (beta < Nβ s) × (i < s .nc) × (l < 4) × (l < 2 ^ (s .nly - dy s beta)) ⌝ }
+    ensures { λ r. ⌜ r ≡ line s row column beta i l ⌝ }
+{
+    let b = band_of(s, beta, i);
+    let reach = reach_of(b, row, l);
+    let span = span_of(b, column_of(s, column));
+    let inner = cell_of(b, span.x, reach.y);
+    let before = samples_before(s, i);
+    let f = b.filter;
+    let p = b.part;
+    Line {
+        present: reach.present,
+        band: s.nc * beta + i,
+        component: i,
+        cell: 2 * before + inner,
+        stride: power(f.dx),
+        width: span.width,
+        groups: ceil_div(span.width, 4),
+        marks: ceil_div(span.width, 32),
+        y: reach.y,
+        area: product(p.w, p.h),
+        up: product(power(f.dy), p.w),
+    }
+}
+
+// Candidate j of slot k of the precinct in this row and column.
+pub fn line_at(s: Shape, row: usize, column: usize, k: usize, j: usize) -> Line
+    requires { ⌜ Built s × (row < Npy s) × (column < Npx s) × (k < slots s) × (j < candidates s k) ⌝ }
+    ensures { λ r. ⌜ r ≡ line-at s row column k j ⌝ }
+{
+    let slot = slot_of(s, k);
+    let nc = s.nc;
+    line_of(s, row, column, slot.first + j / nc, j % nc, slot.line)
 }

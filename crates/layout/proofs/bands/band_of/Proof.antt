@@ -36,11 +36,11 @@ returns c =
     record {
       is = is;
       small =
-        record {
-          filter = subst (λ (b : Band). SmallFilter (b .filter)) (sym is) (own-small s (e .args .beta) (e .args .i) (e .pre .0));
-          part = p .small;
-          own = subst (λ (b : Band). b .filter .dy ≤ b .part .ny) (sym is) (depth-own s (e .args .beta) (e .args .i));
-        };
+          record {
+            filter = subst (λ (b : Band). SmallFilter (b .filter)) (sym is) (own-small s (e .args .beta) (e .args .i) (e .pre .0));
+            part = p .small;
+            own = subst (λ (b : Band). b .filter .dy ≤ b .part .ny) (sym is) (depth-own s (e .args .beta) (e .args .i));
+          };
     }
 
 pub band-of-spec : {M : Type 1} → statement M

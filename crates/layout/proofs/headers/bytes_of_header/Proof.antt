@@ -16,10 +16,9 @@ ceil-div-requires c κs = omega (arith, c .bit-of-mode .ensures .1, c .before .b
 
 returns : tie.Need-returns
 returns c =
-    let e = c .before .before .before in
-    (
+    let e = c .before .before .before in (
       c .ceil-div .ensures
-      ∙ ap (λ (n : ℕ). ceilDiv n 8) (c .before .bit-of-mode .ensures .0 ∙ ap (mode-bit (e .args .s)) (c .before .before .band-count .ensures .0)),
+          ∙ ap (λ (n : ℕ). ceilDiv n 8) (c .before .bit-of-mode .ensures .0 ∙ ap (mode-bit (e .args .s)) (c .before .before .band-count .ensures .0)),
       omega (arith, c .ceil-div .ensures, c .before .bit-of-mode .ensures .1, c .before .before .band-count .ensures .1),
     )
 

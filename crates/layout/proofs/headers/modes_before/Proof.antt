@@ -36,8 +36,7 @@ loop-again : tie.Need-loop-again Inv-loop μ-loop
 loop-again c =
     let l = c .before .before .before in
     let s = l .before .args .s in
-    let k = l .loop .k in
-    (
+    let k = l .loop .k in (
       omega arith,
       (λ i. l .loop .inv .1 i + (c .one-if .ensures ∙ (λ j. cond (c .before .band-exists .ensures j) 1 0)) i) ∙ sym (modes-next s k),
       omega (arith, c .one-if .ensures, one-most (c .before .band-exists .result)),

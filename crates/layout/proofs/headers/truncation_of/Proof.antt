@@ -17,10 +17,9 @@ add-less c =
 returns : tie.Need-returns
 returns c =
     let p = c .before .before .before in
-    let a = p .before .args in
-    (
+    let a = p .before .args in (
       c .smaller .ensures
-      ∙ (λ i. min ((c .before .less .ensures ∙ ap (λ (n : ℕ). a .q - (a .gain + n)) (c .before .before .one-if .ensures)) i) (p .power .ensures .is i - 1)),
+          ∙ (λ i. min ((c .before .less .ensures ∙ ap (λ (n : ℕ). a .q - (a .gain + n)) (c .before .before .one-if .ensures)) i) (p .power .ensures .is i - 1)),
       omega (arith, c .smaller .ensures, p .power .ensures .few, p .power .ensures .some),
     )
 

@@ -30,8 +30,7 @@ add-result c = omega (arith, left c, c .before .product .ensures .1)
 
 returns : tie.Need-returns
 returns c =
-    let e = c .before .before .before .before .before in
-    (
+    let e = c .before .before .before .before .before in (
       (λ i. (c .before .product .ensures .0 ∙ ap (λ (n : ℕ). n * e .args .b .part .w) (c .before .before .place .ensures)) i + c .place2 .ensures i),
       omega (arith, left c, c .before .product .ensures .1),
     )

@@ -21,15 +21,15 @@ returns c =
     let e = at .before .before .before .before .before .before in
     let b = e .args .b in
     let top : at .product .result ≡ e .args .row * 2 ^ (b .part .ny - b .filter .dy) =
-        at .product .ensures .0 ∙ ap (λ (p : ℕ). e .args .row * p) (at .before .power .ensures .is)
+    at .product .ensures .0 ∙ ap (λ (p : ℕ). e .args .row * p) (at .before .power .ensures .is)
     in
     let few =
-        mul-le-mul {n₁ = e .args .row} {m₁ = 2 ^ (b .part .ny - b .filter .dy)} {n₂ = 16384} {m₂ = 2 ^ 2} (e .pre .1)
-        (pow-mono {i = b .part .ny - b .filter .dy} {j = 2} (omega (arith, e .pre .0 .part .levels)))
+    mul-le-mul {n₁ = e .args .row} {m₁ = 2 ^ (b .part .ny - b .filter .dy)} {n₂ = 16384} {m₂ = 2 ^ 2} (e .pre .1)
+    (pow-mono {i = b .part .ny - b .filter .dy} {j = 2} (omega (arith, e .pre .0 .part .levels)))
     in
     record {
       is =
-        λ i.
+          λ i.
           record {
             y = top i + e .args .l / b .part .sy;
             present = b .exists && eqb (e .args .l % b .part .sy) 0 && ltb (top i + e .args .l / b .part .sy) (c .before .before .size .ensures i);

@@ -44,23 +44,23 @@ returns c =
     let all = c .before .ceil-div2 .ensures in
     record {
       is =
-        λ i.
+          λ i.
           record {
             x =
-              (c .before .before .ceil-div .ensures
-              ∙ ap (ceilDiv (e .args .c .x)) (at .product .ensures .0 ∙ ap (λ (p : ℕ). b .part .sx * p) (at .before .power .ensures .is))) i;
+                (c .before .before .ceil-div .ensures
+                ∙ ap (ceilDiv (e .args .c .x)) (at .product .ensures .0 ∙ ap (λ (p : ℕ). b .part .sx * p) (at .before .power .ensures .is))) i;
             width = (c .size .ensures ∙ (λ j. by-letter (b .filter .tx) (low-size (all j) (b .filter .dx)) (high-size (all j) (b .filter .dx)))) i;
           };
       small = omega (arith, c .before .before .ceil-div .ensures, ceil-most (e .args .c .x) (at .product .result) (step-some at), e .pre .1);
       narrow =
-        omega (
-          arith,
-          c .size .ensures,
-          size-most (c .before .ceil-div2 .result) (b .filter .tx) (b .filter .dx),
-          all,
-          ceil-most (e .args .c .width) (b .part .sx) (e .pre .0 .part .across),
-          e .pre .2,
-        );
+          omega (
+            arith,
+            c .size .ensures,
+            size-most (c .before .ceil-div2 .result) (b .filter .tx) (b .filter .dx),
+            all,
+            ceil-most (e .args .c .width) (b .part .sx) (e .pre .0 .part .across),
+            e .pre .2,
+          );
     }
 
 pub span-of-spec : {M : Type 1} → statement M
