@@ -2,3 +2,5 @@
 pub mod Codes
 pub mod Groups
 pub mod Lines
+pub mod Laws
+pub mod Examples

@@ -5,7 +5,7 @@ use mathlib.Core.Bool.{Bool, true, false, cond}
 use mathlib.Core.List.{List}
 use native.Mathlib.Omega.{arith}
 use borrow.Author.Tests.{leb-true, leb-false}
-use lib.Dec.{leb}
+use lib.Dec.{leb, ltb}
 use lib.IntN.{ℤ, pos, negsuc, _+ℤ_, _-ℤ_}
 use lib.ListN.{length, set}
 use lib.Signed.{mag}
@@ -84,6 +84,14 @@ module _ (s sig : List ℕ) (c : Coding) (p : Place) (z g i : ℕ) (cells : List
 
   pub count-sound : {m next : ℕ} → x ≡ Count m next → Sound s i (Count m next)
   count-sound f = rw (sym e ∙ f) at (unpack-sound s i (c .mode) sig c p z g cells)
+
+-- ---- the nibbles of a group
+pub nibbles-few : (c : Coding) (m : ℕ) → m ≤ 31 → nibbles c m ≤ 32
+nibbles-few c m h = cond-by (λ (r : ℕ). r ≤ 32) (ltb (c .t) m) (λ e. omega (arith, sign (c .signs))) (λ e. omega arith)
+  where
+    sign : (b : Bool) → cond b 1 0 ≤ 1
+    sign true = omega arith
+    sign false = omega arith
 
 -- ---- what a store keeps
 pub ready-still : {c : Coding} {p : Place} {bytes z n k : ℕ} → Ready c p bytes z n → k ≡ n → Ready c p bytes z k

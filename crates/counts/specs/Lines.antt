@@ -85,7 +85,7 @@ abbrev pub end : State → Left
 end x = (Done (x .0) (x .1), x .2)
 
 -- the line's groups from bit i of the stretch on
-abbrev pub lineCounts : List ℕ → List ℕ → Coding → Place → ℕ → ℕ → List ℤ → Left
+unfoldable pub lineCounts : List ℕ → List ℕ → Coding → Place → ℕ → ℕ → List ℤ → Left
 lineCounts s sig c p i z cells = run (turn s sig c p z) end (groups p) 0 (i, 0, cells)
 
 -- document 01's number of an answer

@@ -3,3 +3,4 @@ pub mod Precincts
 pub mod Ready
 pub mod Passes
 pub mod Packets
+pub mod Steps

@@ -112,7 +112,7 @@ module _ (s : List ℕ) (c : Setting) (p : Precinct) (slot at : ℕ) where
   afterValues x = (first (signChecks (x .0 .sign)), x .1)
 
   abbrev pub valuesBy : Verdict → List ℤ → Left
-  valuesBy Fine cells = afterValues (packetValues s c p slot (stretch s datAt (head .ldat)) (stretch s sgnAt Lsign) cells)
+  valuesBy Fine cells = afterValues (packetValues c p slot (stretch s datAt (head .ldat)) (stretch s sgnAt Lsign) cells)
   valuesBy (Refused k) cells = (Refused k, cells)
 
   abbrev pub afterCounts : Counted × List ℤ → Left

@@ -26,67 +26,72 @@ use Rattle.packets.specs.Precincts.{D, T}
 abbrev pub line : Setting → Precinct → ℕ → ℕ → Line
 line c p slot j = line-at (c .shape) (p .row) (p .column) slot j
 
-module _ (s : List ℕ) (c : Setting) (p : Precinct) (slot : ℕ) where
-  -- ---- Table C.6: Z is there for a line where Dr = 0 and D & 2
+-- ---- Table C.6: Z is there for a line where Dr = 0 and D & 2
 
-  abbrev pub marked : Bool → ℕ → Bool
-  marked raw j = line c p slot j .present && not raw && eqb (D s c p (line c p slot j .band) / 2) 1
+abbrev pub marked : List ℕ → Setting → Precinct → Bool → Line → Bool
+marked s c p raw l = l .present && not raw && eqb (D s c p (l .band) / 2) 1
 
-  -- the significance flags of the lines below j, and the bytes of all
-  unfoldable pub marks : Bool → ℕ → ℕ
-  marks raw zero = 0
-  marks raw (suc j) = marks raw j + cond (marked raw j) (line c p slot j .marks) 0
+-- the significance flags of a line
+abbrev pub flags : List ℕ → Setting → Precinct → Bool → Line → ℕ
+flags s c p raw l = cond (marked s c p raw l) (l .marks) 0
 
-  -- ---- Table C.8
+-- and of the lines below j
+unfoldable pub marks : List ℕ → Setting → Precinct → ℕ → Bool → ℕ → ℕ
+marks s c p slot raw zero = 0
+marks s c p slot raw (suc j) = marks s c p slot raw j + flags s c p raw (line c p slot j)
 
-  abbrev pub modeOf : Bool → ℕ → Mode
-  modeOf raw d = cond raw Raw (cond (eqb (d % 2) 0) NoPrediction Vertical)
+-- ---- Table C.8
 
-  abbrev pub codingOf : Bool → ℕ → Coding
-  codingOf raw b =
-      record {
-        mode = modeOf raw (D s c p b);
-        flags = eqb (D s c p b / 2) 1;
-        run = c .rm;
-        signs = not (c .fs);
-        t = T c p b;
-        br = c .br;
-      }
+abbrev pub modeOf : Bool → ℕ → Mode
+modeOf raw d = cond raw Raw (cond (eqb (d % 2) 0) NoPrediction Vertical)
 
-  abbrev pub placeOf : Line → Place
-  placeOf l = record { first = l .cell; stride = l .stride; width = l .width; area = l .area; up = l .up }
+abbrev pub codingOf : List ℕ → Setting → Precinct → Bool → ℕ → Coding
+codingOf s c p raw b =
+    record {
+      mode = modeOf raw (D s c p b);
+      flags = eqb (D s c p b / 2) 1;
+      run = c .rm;
+      signs = not (c .fs);
+      t = T c p b;
+      br = c .br;
+    }
 
-  -- the next bit of the counts, the nibbles of data that they ask for, and the cells
-  abbrev pub Counting : Type 0
-  Counting = ℕ × ℕ × List ℤ
+abbrev pub placeOf : Line → Place
+placeOf l = record { first = l .cell; stride = l .stride; width = l .width; area = l .area; up = l .up }
 
-  abbrev pub counted : ℕ → Counted × List ℤ → Turn Counting (Counted × List ℤ)
-  counted need (Done next more, cells) = go (next, need + more, cells)
-  counted need (Cut, cells) = stop (Cut, cells)
-  counted need (High, cells) = stop (High, cells)
+-- the next bit of the counts, the nibbles of data that they ask for, and the cells
+abbrev pub Counting : Type 0
+Counting = ℕ × ℕ × List ℤ
 
-  unfoldable pub countTurn : List ℕ → List ℕ → Bool → ℕ → Counting → Turn Counting (Counted × List ℤ)
-  countTurn cnt sig raw j x =
+abbrev pub counted : ℕ → Counted × List ℤ → Turn Counting (Counted × List ℤ)
+counted need (Done next more, cells) = go (next, need + more, cells)
+counted need (Cut, cells) = stop (Cut, cells)
+counted need (High, cells) = stop (High, cells)
+
+-- the stretch of the counts and that of the significance flags
+module _ (s : List ℕ) (c : Setting) (p : Precinct) (slot : ℕ) (cnt sig : List ℕ) (raw : Bool) where
+  unfoldable pub countTurn : ℕ → Counting → Turn Counting (Counted × List ℤ)
+  countTurn j x =
       cond (line c p slot j .present)
-      (counted (x .1) (lineCounts cnt sig (codingOf raw (line c p slot j .band)) (placeOf (line c p slot j)) (x .0) (marks raw j) (x .2)))
+      (counted (x .1) (lineCounts cnt sig (codingOf s c p raw (line c p slot j .band)) (placeOf (line c p slot j)) (x .0) (marks s c p slot raw j) (x .2)))
       (go x)
 
-  -- all lines of the packet, from the stretch of the counts and that of the significance flags
-  unfoldable pub packetCounts : List ℕ → List ℕ → Bool → List ℤ → Counted × List ℤ
-  packetCounts cnt sig raw cells =
-      run (countTurn cnt sig raw) (λ x. (Done (x .0) (x .1), x .2)) (candidates (c .shape) slot) 0 (0, 0, cells)
+  -- all lines of the packet
+  unfoldable pub packetCounts : List ℤ → Counted × List ℤ
+  packetCounts cells = run countTurn (λ x. (Done (x .0) (x .1), x .2)) (candidates (c .shape) slot) 0 (0, 0, cells)
 
-  -- ---- Tables C.9 and C.10, with Annex D
+-- ---- Tables C.9 and C.10, with Annex D
 
-  abbrev pub valuesOf : Values
-  valuesOf = record { uniform = c .uniform; fs = c .fs; fq = c .fq }
+abbrev pub valuesOf : Setting → Values
+valuesOf c = record { uniform = c .uniform; fs = c .fs; fq = c .fq }
 
-  abbrev pub valued : Line → Valued
-  valued l = record { first = l .cell; stride = l .stride; width = l .width; area = l .area; t = T c p (l .band) }
+abbrev pub valued : Setting → Precinct → Line → Valued
+valued c p l = record { first = l .cell; stride = l .stride; width = l .width; area = l .area; t = T c p (l .band) }
 
-  unfoldable pub valueTurn : List ℕ → List ℕ → ℕ → Next × List ℤ → Turn (Next × List ℤ) (Next × List ℤ)
-  valueTurn dat sgn j x = go (cond (line c p slot j .present) (lineValues dat sgn valuesOf (valued (line c p slot j)) (x .0) (x .1)) x)
+-- the stretch of the data and that of the signs
+module _ (c : Setting) (p : Precinct) (slot : ℕ) (dat sgn : List ℕ) where
+  unfoldable pub valueTurn : ℕ → Next × List ℤ → Turn (Next × List ℤ) (Next × List ℤ)
+  valueTurn j x = go (cond (line c p slot j .present) (lineValues dat sgn (valuesOf c) (valued c p (line c p slot j)) (x .0) (x .1)) x)
 
-  unfoldable pub packetValues : List ℕ → List ℕ → List ℤ → Next × List ℤ
-  packetValues dat sgn cells =
-      run (valueTurn dat sgn) (λ x. x) (candidates (c .shape) slot) 0 (record { at = 0; sign = 0 }, cells)
+  unfoldable pub packetValues : List ℤ → Next × List ℤ
+  packetValues cells = run valueTurn (λ x. x) (candidates (c .shape) slot) 0 (record { at = 0; sign = 0 }, cells)

@@ -3,7 +3,7 @@ use mathlib.Core.Path.{_≡_}
 use mathlib.Core.Bool.{true}
 use mathlib.Core.List.{List}
 use Prim.Native.Nat.{ℕ, _%_, _^_, _≤_, _<_}
-use lib.ListN.{length}
+use lib.ListN.{length, getD}
 use Rattle.bits.specs.Packet.{Fit}
 use Rattle.layout.specs.Bands.{NL, band-exists}
 use Rattle.layout.specs.Built.{Built}
@@ -18,6 +18,7 @@ pub record Settled (c : Setting) : Type 0 where
   pub widths : Fit (c .widths)
   pub br : c .br ≤ 5
   pub fq : c .fq ≤ 15
+  pub gains : (b : ℕ) → getD (c .gains) b 0 ≤ 15
 
 -- `cells` is the number of work cells that are lent. Vertical prediction has a line above: row 8 refuses it in the top row of a slice
 pub record Standing (s : List ℕ) (c : Setting) (p : Precinct) (cells : ℕ) : Type 0 where

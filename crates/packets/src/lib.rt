@@ -1,6 +1,27 @@
 // Annex C: one packet of a precinct, from its header to the coefficients and counts in the work cells.
+pub mod bands;
+pub mod passes;
+
+use bits::packet::PacketHeader;
 use bits::packet::Widths;
 use layout::Shape;
+use rows::AMPLE;
+use rows::Check;
+use rows::Field;
+use rows::HOLDS;
+use rows::Row;
+use rows::Verdict;
+ghost use mathlib.Core.Path.{_≡_};
+ghost use mathlib.Core.Bool.{cond};
+ghost use Prim.Native.Nat.{_-_, _≤_, _<_};
+ghost use lib.ListN.{length, getD};
+ghost use Rattle.whole.specs.Numbers.{ceilDiv};
+ghost use Rattle.rows.specs.declared.Verdict.the-variants.{Fine};
+ghost use Rattle.bits.specs.Packet.{IsHeader};
+ghost use Rattle.layout.specs.Slots.{slots};
+ghost use Rattle.packets.specs.Packets.{bound, valuesBy, afterCounts, countsBy};
+ghost use Rattle.packets.specs.Ready.{Settled, Standing};
+ghost use Rattle.packets.specs.Steps.{Within, Working, IsParts, Opening, Decoded, countsOf};
 
 // What Annex C needs of the headers: Annex B's shape, the widths of a packet header, Br, Fq, whether Qpih selects the uniform quantiser, whether Fs, Rm
 // and Rl are 1, and gain and priority of each band.
@@ -25,4 +46,230 @@ pub struct Precinct {
     pub end: usize,
     pub q: usize,
     pub r: usize,
+}
+
+// Where the parts of a packet stand, whether they fit or not: its header, the four subpackets, and the place behind them. `raw` where Dr = 1.
+struct Parts {
+    at: usize,
+    raw: bool,
+    sig: usize,
+    cnt: usize,
+    dat: usize,
+    sgn: usize,
+    past: usize,
+}
+
+// A packet header that is read and judged.
+struct Opened {
+    verdict: Verdict,
+    dr: usize,
+    parts: Parts,
+}
+
+// What a packet leaves beside the cells: the verdict, its raw flag, and the place behind it.
+pub struct Outcome {
+    pub verdict: Verdict,
+    pub dr: usize,
+    pub past: usize,
+}
+
+// a − b, or 0.
+fn less(a: usize, b: usize) -> usize
+    ensures { λ r. ⌜ r ≡ a - b ⌝ }
+{
+    if b < a { a - b } else { 0 }
+}
+
+// Sums that could wrap stay out of the two roundings up.
+fn bytes_of_bits(n: usize) -> usize
+    ensures { λ r. ⌜ r ≡ ceilDiv n 8 ⌝ }
+{
+    n / 8 + (n % 8 + 7) / 8
+}
+
+fn bytes_of_nibbles(n: usize) -> usize
+    ensures { λ r. ⌜ r ≡ ceilDiv n 2 ⌝ }
+{
+    n / 2 + n % 2
+}
+
+// The raw flag of the packet before that shares bands with this one, where there is one and Rl = 0.
+fn bound_flag(c: Setting, slot: usize, raws: [usize; 10], free: usize) -> usize
+    requires { ⌜ slot < 10 ⌝ }
+    ensures { λ r. ⌜ r ≡ cond (bound c slot) (getD raws (slot - 3) 0) free ⌝ }
+{
+    if c.rl {
+        return free;
+    }
+    if slot < 7 {
+        return free;
+    }
+    raws[slot - 3]
+}
+
+fn parts_of(s: &[u8], c: Setting, p: Precinct, slot: usize, at: usize, h: PacketHeader) -> Parts
+    requires { ⌜ Within (now s) c p slot × (at ≤ p .end) × IsHeader (now s) at (c .widths) h ⌝ }
+    ensures { λ r. ⌜ IsParts (now (s .entry)) c p slot at r ⌝ }
+{
+    let widths = c.widths;
+    let raw = h.dr == 1;
+    let sig = at + widths.bytes();
+    let cnt = sig + bytes_of_bits(passes::all_marks(s, c, p, slot, raw));
+    let dat = cnt + h.lcnt;
+    let sgn = dat + h.ldat;
+    Parts {
+        at: at,
+        raw: raw,
+        sig: sig,
+        cnt: cnt,
+        dat: dat,
+        sgn: sgn,
+        past: sgn + rows::choose(c.fs, h.lsgn, 0),
+    }
+}
+
+// The header of a packet, judged as far as the length of the counts.
+fn open(s: &[u8], c: Setting, p: Precinct, slot: usize, at: usize, raws: [usize; 10]) -> Opened
+    requires { ⌜ Within (now s) c p slot × (at ≤ p .end) ⌝ }
+    ensures { λ r. ⌜ Opening (now (s .entry)) c p slot at raws r ⌝ }
+{
+    let widths = c.widths;
+    let h = PacketHeader::read(s, at, widths);
+    let parts = parts_of(s, c, p, slot, at, h);
+    let least = bound_flag(c, slot, raws, 0);
+    let most = bound_flag(c, slot, raws, 1);
+    let signs = rows::choose(c.fs, AMPLE, 0);
+    let sgn_at = at + (1 + widths.dat + widths.cnt) / 8;
+    let v = rows::first([
+        Check(Row::Length, p.at, Field::Packet, p.end - at, widths.bytes(), AMPLE),
+        Check(Row::Mode, at, Field::Dr, h.dr, least, most),
+        Check(Row::Value, sgn_at, Field::Lsgn, h.lsgn, 0, signs),
+        Check(
+            Row::Length,
+            parts.sig,
+            Field::Significance,
+            less(p.end, parts.sig),
+            parts.cnt - parts.sig,
+            AMPLE,
+        ),
+        Check(Row::Length, parts.cnt, Field::Counts, less(p.end, parts.cnt), h.lcnt, AMPLE),
+        HOLDS,
+        HOLDS,
+        HOLDS,
+    ]);
+    Opened {
+        verdict: v,
+        dr: h.dr,
+        parts: parts,
+    }
+}
+
+// The data and the signs, each from its own stretch, and then whether the signs' stretch was long enough.
+fn values(s: &[u8], cells: &mut [i64], c: Setting, p: Precinct, slot: usize, parts: Parts) -> Verdict
+    requires { ⌜ Working (now s) c p slot (length (now cells)) × IsParts (now s) c p slot (parts .at) parts × (parts .past ≤ length (now s)) ⌝ }
+    ensures { λ r. ⌜ valuesBy (now (s .entry)) c p slot (parts .at) Fine (now (cells .entry)) ≡ (r, now (cells .exit)) ⌝ }
+{
+    let a = parts.dat;
+    let b = parts.sgn;
+    let e = parts.past;
+    let dat = &s[a..b];
+    let sgn = &s[b..e];
+    let next = passes::packet_values(dat, sgn, cells, c, p, slot);
+    let used = bytes_of_bits(next.sign);
+    rows::one(Check(Row::Length, b, Field::Signs, e - b, used, AMPLE))
+}
+
+fn values_by(v: Verdict, s: &[u8], cells: &mut [i64], c: Setting, p: Precinct, slot: usize, parts: Parts) -> Verdict
+    requires { ⌜ Working (now s) c p slot (length (now cells)) × IsParts (now s) c p slot (parts .at) parts × (v ≡ Fine → parts .past ≤ length (now s)) ⌝ }
+    ensures { λ r. ⌜ valuesBy (now (s .entry)) c p slot (parts .at) v (now (cells .entry)) ≡ (r, now (cells .exit)) ⌝ }
+{
+    match v {
+        Verdict::Fine => values(s, cells, c, p, slot, parts),
+        Verdict::Refused(_) => v,
+    }
+}
+
+// What follows the counts: their own row, or the lengths of the data and of the signs, and then the values.
+fn after_counts(
+    line: counts::Line,
+    s: &[u8],
+    cells: &mut [i64],
+    c: Setting,
+    p: Precinct,
+    slot: usize,
+    parts: Parts,
+) -> Verdict
+    requires { ⌜ Working (now s) c p slot (length (now cells)) × IsParts (now s) c p slot (parts .at) parts × (parts .dat ≤ p .end) ⌝ }
+    ensures { λ r. ⌜ afterCounts (now (s .entry)) c p slot (parts .at) (line, now (cells .entry)) ≡ (r, now (cells .exit)) ⌝ }
+{
+    let cnt = parts.cnt;
+    let dat = parts.dat;
+    let sgn = parts.sgn;
+    match line {
+        counts::Line::Done { next: _, need } => {
+            let v = rows::first([
+                Check(Row::Length, dat, Field::Data, p.end - dat, sgn - dat, AMPLE),
+                Check(Row::Length, dat, Field::Data, sgn - dat, bytes_of_nibbles(need), AMPLE),
+                Check(Row::Length, sgn, Field::Signs, less(p.end, sgn), parts.past - sgn, AMPLE),
+                HOLDS,
+                HOLDS,
+                HOLDS,
+                HOLDS,
+                HOLDS,
+            ]);
+            values_by(v, s, cells, c, p, slot, parts)
+        }
+        counts::Line::Cut => rows::one(Check(Row::Length, cnt, Field::Counts, dat - cnt, dat - cnt + 1, AMPLE)),
+        counts::Line::High => rows::one(Check(Row::Count, cnt, Field::Counts, 32, 0, 31)),
+    }
+}
+
+// The counts, from their own stretch and that of the significance flags.
+fn counts_of(s: &[u8], cells: &mut [i64], c: Setting, p: Precinct, slot: usize, parts: Parts) -> counts::Line
+    requires { ⌜ Working (now s) c p slot (length (now cells)) × IsParts (now s) c p slot (parts .at) parts × (parts .dat ≤ p .end) ⌝ }
+    ensures { λ r. ⌜ countsOf (now (s .entry)) c p slot (parts .at) (now (cells .entry)) ≡ (r, now (cells .exit)) ⌝ }
+{
+    let a = parts.sig;
+    let b = parts.cnt;
+    let e = parts.dat;
+    let sig = &s[a..b];
+    let cnt = &s[b..e];
+    passes::packet_counts(s, cnt, sig, cells, c, p, slot, parts.raw)
+}
+
+fn counts_by(v: Verdict, s: &[u8], cells: &mut [i64], c: Setting, p: Precinct, slot: usize, parts: Parts) -> Verdict
+    requires { ⌜ Working (now s) c p slot (length (now cells)) × IsParts (now s) c p slot (parts .at) parts × (v ≡ Fine → parts .dat ≤ p .end) ⌝ }
+    ensures { λ r. ⌜ countsBy (now (s .entry)) c p slot (parts .at) v (now (cells .entry)) ≡ (r, now (cells .exit)) ⌝ }
+{
+    match v {
+        Verdict::Fine => {
+            let line = counts_of(s, cells, c, p, slot, parts);
+            after_counts(line, s, cells, c, p, slot, parts)
+        }
+        Verdict::Refused(_) => v,
+    }
+}
+
+// The packet of a slot, whose header stands at `at`. `raws` are the raw flags of the slots before.
+pub fn packet(
+    s: &[u8],
+    cells: &mut [i64],
+    c: Setting,
+    p: Precinct,
+    slot: usize,
+    at: usize,
+    raws: [usize; 10],
+) -> Outcome
+    requires { ⌜ Settled c × Standing (now s) c p (length (now cells)) × (at ≤ p .end) × (slot < slots (c .shape)) ⌝ }
+    ensures { λ r. ⌜ Decoded (now (s .entry)) c p slot at raws (now (cells .entry)) r (now (cells .exit)) ⌝ }
+{
+    let o = open(s, c, p, slot, at, raws);
+    let v = o.verdict;
+    let parts = o.parts;
+    let verdict = counts_by(v, s, cells, c, p, slot, parts);
+    Outcome {
+        verdict: verdict,
+        dr: o.dr,
+        past: parts.past,
+    }
 }

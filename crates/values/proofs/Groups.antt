@@ -17,7 +17,9 @@ use Rattle.bits.specs.Fields.{bitAt, field, IsField}
 use Rattle.bits.proofs.Laws.{is-field}
 use Rattle.quantiser.specs.Inverse.{coefficientOf, scaled, Carried}
 use Rattle.quantiser.proofs.Laws.{coefficient-zero, scaled-zero}
-use Rattle.values.specs.Group.{planes, signNibbles, nibblesOf, signBits, signBitsOf, v, s, index, value, placed, groupValues, signField, SignBit}
+use Rattle.values.specs.Group.{signNibbles, nibblesOf, signBits, signBitsOf, v, s, index}
+use Rattle.values.specs.Line.{placed}
+use Rattle.values.specs.Steps.{SignBit, signField, value, groupValues}
 use Rattle.values.specs.declared.Coding.{Coding}
 use Rattle.values.specs.declared.Group.{Group}
 use Rattle.values.specs.declared.Next.{Next}

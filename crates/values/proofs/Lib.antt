@@ -3,3 +3,5 @@ pub mod Planes
 pub mod Places
 pub mod Groups
 pub mod Lines
+pub mod Laws
+pub mod Examples

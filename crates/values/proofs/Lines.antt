@@ -1,5 +1,5 @@
 -- A line, group after group. Assumes nothing.
-use mathlib.Core.Bool.{Bool}
+use mathlib.Core.Bool.{Bool, false}
 use mathlib.Core.List.{List}
 use mathlib.Core.Path.{_≡_, refl, sym, ap, ap₂, _∙_}
 use Prim.Native.Nat.{ℕ, zero, suc, _+_, _-_, _*_, _/_, _%_, _^_, _≤_, _<_, min}
@@ -9,8 +9,9 @@ use native.Mathlib.Omega.{arith}
 use lib.IntN.{ℤ, pos}
 use lib.ListN.{length}
 use Rattle.whole.specs.Cells.{cell}
-use Rattle.values.specs.Group.{countIn, nibblesOf, signBitsOf, index, value, placed, groupValues, InCells, GroupFit}
-use Rattle.values.specs.Line.{Fit, HasGroup, groups, groupOf, M, nibbles, nibbleAt, signAt, indexAt, valueAt, lineValues}
+use Rattle.values.specs.Group.{countIn, signBitsOf}
+use Rattle.values.specs.Line.{place, countPlace, groups, Fit, M, nibbles, placed, nibbleAt, signAt, indexAt, valueAt, lineValues}
+use Rattle.values.specs.Steps.{GroupFit, value, groupValues, groupOf}
 use Rattle.values.specs.declared.Coding.{Coding}
 use Rattle.values.specs.declared.Line.{Line}
 use Rattle.values.specs.declared.Next.{Next}
@@ -50,6 +51,17 @@ module _ (dat sgn : List ℕ) (how : Coding) (l : Line) (from : Next) (cells₀ 
   sign-at-most zero = omega arith
   sign-at-most (suc g) =
       omega (arith, sign-at-most g, sign-bits-of-le dat (how .fs) (M l cells₀ g) (l .t) (nibbleAt dat sgn how l from cells₀ g))
+
+  pub sign-at-least : (g : ℕ) → from .sign ≤ signAt dat sgn how l from cells₀ g
+  unfolding signAt
+  sign-at-least zero = omega arith
+  sign-at-least (suc g) = omega (arith, sign-at-least g)
+
+  -- none where Fs is 0
+  pub sign-at-none : how .fs ≡ false → (g : ℕ) → signAt dat sgn how l from cells₀ g ≡ from .sign
+  unfolding signAt signBitsOf
+  sign-at-none f zero = refl
+  sign-at-none f (suc g) = rw (f, add-zero) (sign-at-none f g)
 
   pub reached-first : Reached dat sgn how l from 0 cells₀ from cells₀
   unfolding nibbleAt nibbles signAt

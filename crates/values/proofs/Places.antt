@@ -3,13 +3,14 @@ use mathlib.Core.List.{List}
 use mathlib.Core.Path.{_≡_, refl, sym, ap, ap₂, _∙_}
 use Prim.Native.Nat.{ℕ, zero, suc, _+_, _*_, _≤_, _<_}
 use native.Mathlib.Numerals.{add-one}
-use native.Mathlib.Nat.{add-zero, add-suc, add-assoc, add-mul}
+use native.Mathlib.Nat.{add-zero, add-suc, add-assoc, add-mul, mul-lt-mul-of-pos-right}
+use native.Mathlib.Decide.{decLt}
 use native.Mathlib.Omega.{arith}
 use lib.IntN.{ℤ, pos}
 use lib.ListN.{length, getD, set, length-set}
 use lib.Seq.{getD-set-same, getD-set-other}
 use Rattle.whole.specs.Cells.{cell}
-use Rattle.values.specs.Group.{placed}
+use Rattle.values.specs.Line.{placed}
 
 module _ (first stride : ℕ) where
   pub placed-length : (f : ℕ → ℤ) (n : ℕ) (cells : List ℤ) → length (placed first stride f n cells) ≡ length cells
@@ -38,6 +39,23 @@ module _ (first stride : ℕ) where
   placed-other f (suc n) cells p h =
       getD-set-other (placed first stride f n cells) (first + n * stride) p (f n) (pos 0) (h n (omega arith))
       ∙ placed-other f n cells p (λ x l. h x (omega arith))
+
+  -- a place holds its value: places that are apart do not write over each other
+  pub placed-at : (f : ℕ → ℤ) (n : ℕ) (cells : List ℤ) (x : ℕ) → 0 < stride → x < n → first + x * stride < length cells
+      → cell (placed first stride f n cells) (first + x * stride) ≡ f x
+  unfolding placed
+  placed-at f zero cells x s h i = absurd (omega arith)
+  placed-at f (suc n) cells x s h i = pick (placed-at f n cells x s) (decLt x n)
+    where
+      pick : (x < n → first + x * stride < length cells → cell (placed first stride f n cells) (first + x * stride) ≡ f x) → Dec (x < n)
+          → cell (set (placed first stride f n cells) (first + n * stride) (f n)) (first + x * stride) ≡ f x
+      pick before (yes l) =
+          getD-set-other (placed first stride f n cells) (first + n * stride) (first + x * stride) (f n) (pos 0)
+          (λ e. omega (arith, mul-lt-mul-of-pos-right l s))
+          ∙ before l i
+      pick before (no l) =
+          let e : x ≡ n = omega arith in
+          rw e (getD-set-same (placed first stride f n cells) (first + n * stride) (f n) (pos 0) (rw (placed-length f n cells, ← e) i))
 
 -- the invariant of such a loop, with n places written
 pub record Placing (first stride : ℕ) (f : ℕ → ℤ) (n : ℕ) (cells₀ cells : List ℤ) : Type 0 where

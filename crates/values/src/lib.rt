@@ -1,13 +1,12 @@
 // One line of one band: from the data and sign subpackets (C.5.4, C.5.5) through the inverse quantiser (Annex D) into the coefficient cells.
-ghost use mathlib.Core.Bool.{cond};
 ghost use mathlib.Core.Path.{_≡_};
 ghost use Prim.Native.Nat.{_+_, _-_, _*_, _/_, _%_, _≤_, _<_, _^_, min};
 ghost use lib.Dec.{eqb};
 ghost use lib.IntN.{pos};
-ghost use lib.ListN.{length, getD};
+ghost use lib.ListN.{length};
 ghost use Rattle.whole.specs.Numbers.{signed};
-ghost use Rattle.values.specs.Group.{CountIs, Magnitudes, SignBit, GroupFit, InCells, nibblesOf, signField, signBits, placed, groupValues};
-ghost use Rattle.values.specs.Line.{HasGroup, groupOf, Fit, lineValues};
+ghost use Rattle.values.specs.Line.{Fit, placed, lineValues};
+ghost use Rattle.values.specs.Steps.{Chosen, CountIs, Takes, SignBit, SignBits, Magnitudes, signField, InCells, GroupFit, groupValues, HasGroup, groupOf};
 
 // Where a line stands in the cells, and its precinct's truncation position in its band. Coefficient x has the cell first + x·stride, and the count
 // cell of a code group stands `area` cells behind that of its first coefficient.
@@ -54,7 +53,7 @@ fn smaller(a: usize, b: usize) -> usize
 }
 
 fn chosen(which: bool, a: usize, b: usize) -> usize
-    ensures { λ r. ⌜ r ≡ cond which a b ⌝ }
+    ensures { λ r. ⌜ Chosen which a b r ⌝ }
 {
     if which { a } else { b }
 }
@@ -62,7 +61,7 @@ fn chosen(which: bool, a: usize, b: usize) -> usize
 // The nibbles that a group takes of the data stretch.
 fn nibbles_of(m: usize, t: usize, fs: bool) -> usize
     requires { ⌜ m ≤ 31 ⌝ }
-    ensures { λ r. ⌜ r ≡ nibblesOf m t fs ⌝ }
+    ensures { λ r. ⌜ Takes m t fs r ⌝ }
 {
     if m <= t {
         return 0;
@@ -111,7 +110,7 @@ fn sign_bit(v: usize) -> usize
 
 // The sign bits of four sizes.
 fn sign_bits(v: [usize; 4]) -> usize
-    ensures { λ r. ⌜ r ≡ signBits (λ k. getD v k 0) 4 ⌝ }
+    ensures { λ r. ⌜ SignBits v r ⌝ }
 {
     sign_bit(v[0]) + sign_bit(v[1]) + sign_bit(v[2]) + sign_bit(v[3])
 }
@@ -169,7 +168,8 @@ fn coded_group(
     while k < count {
         let size = v[k];
         let index = signed_index((bits >> (3 - chosen(fs, used, k))) % 2, size);
-        cells[first + k * stride] = quantiser::scaled_coefficient(
+        let to = first + k * stride;
+        cells[to] = quantiser::scaled_coefficient(
             how.uniform,
             group.m as u64,
             group.t as u64,
@@ -179,10 +179,10 @@ fn coded_group(
         used += sign_bit(size);
         k += 1;
     }
-    Next {
-        at: next.at + nibbles_of(group.m, group.t, fs),
-        sign: next.sign + chosen(fs, sign_bits(v), 0),
-    }
+    let all = sign_bits(v);
+    let at = next.at + nibbles_of(group.m, group.t, fs);
+    let sign = next.sign + chosen(fs, all, 0);
+    Next { at: at, sign: sign }
 }
 
 // A group into its cells. One whose planes are all truncated takes nothing.

@@ -10,14 +10,6 @@ use Rattle.counts.specs.Lines.{countCell, unpack}
 use Rattle.counts.proofs.Lines.{vertical-is}
 use Rattle.counts.proofs.group_at.Statement.{statement}
 use Rattle.counts.proofs.group_at.Tie as tie
-use Rattle.counts.proofs.group_at.Reads as reads
-use Rattle.counts.proofs.group_at.Lts as lts
-use Rattle.counts.proofs.count_cell.Reads as count-cell-reads
-use Rattle.counts.proofs.group.read_nopred.Reads as read-nopred-reads
-use Rattle.counts.proofs.group.read_raw.Reads as read-raw-reads
-use Rattle.counts.proofs.group.read_vertical.Reads as read-vertical-reads
-use Rattle.counts.proofs.held.Reads as held-reads
-use Rattle.counts.proofs.is_insignificant.Reads as is-insignificant-reads
 
 -- the group's cell
 inside : (c : tie.Start) → countCell (c .args .p) (c .args .g) < length (now (c .args .cells))

@@ -6,16 +6,10 @@ use borrow.Author.Needs.{needs}
 use lib.ListN.{length, length-set}
 use denote.Ref.{now}
 use Rattle.loops.proofs.Laws.{Going, begins, goes-on, stops, ends}
-use Rattle.counts.specs.Lines.{countCell, turn, end}
+use Rattle.counts.specs.Lines.{countCell, turn, end, lineCounts}
 use Rattle.counts.proofs.Lines.{turn-is, turn-counts, count-sound, ready-still}
 use Rattle.counts.proofs.line_counts.Statement.{statement}
 use Rattle.counts.proofs.line_counts.Tie as tie
-use Rattle.counts.proofs.line_counts.Reads as reads
-use Rattle.counts.proofs.line_counts.Lts as lts
-use Rattle.counts.proofs.count_cell.Reads as count-cell-reads
-use Rattle.counts.proofs.group_at.Reads as group-at-reads
-use Rattle.counts.proofs.group_nibbles.Reads as group-nibbles-reads
-use Rattle.counts.proofs.to_hold.Reads as to-hold-reads
 
 abbrev Inv-loop : tie.InvT-loop
 Inv-loop stretch sig cells₀ coding place at sig-at groups i₀ need₀ g₀ cells i need g =
@@ -24,9 +18,6 @@ Inv-loop stretch sig cells₀ coding place at sig-at groups i₀ need₀ g₀ ce
 
 abbrev μ-loop : tie.MeasureT-loop
 μ-loop stretch sig cells₀ coding place at sig-at groups i₀ need₀ g₀ cells i need g = groups - g
-
-add-groups : tie.Need-add-groups Inv-loop μ-loop
-add-groups c = search needs
 
 loop-holds : tie.Need-loop-holds Inv-loop μ-loop
 loop-holds c = (search needs, search needs, search needs, begins)
@@ -43,9 +34,6 @@ small c = count-sound _ _ _ _ _ _ _ _ (c .before .before .group-at .ensures) (c 
 
 group-at-requires : tie.Need-group-at-requires Inv-loop μ-loop
 group-at-requires c κs = (ready-still (c .before .before .before .before .before .before .pre) (c .before .before .loop .inv .1), omega arith)
-
-enum-known-m : tie.Need-enum-known-m Inv-loop μ-loop
-enum-known-m c = search needs
 
 to-hold-requires : tie.Need-to-hold-requires Inv-loop μ-loop
 to-hold-requires c κs = (small (c .before), c .before .before .before .before .before .before .before .before .before .before .pre .t)
@@ -69,33 +57,17 @@ add-need c =
     let l = c .before .before .before .before .before .before .before .before in
     omega (arith, c .group-nibbles .ensures .most, l .before .loop .inv .2, l .loop-test .taken)
 
-enum-told : tie.Need-enum-told Inv-loop μ-loop
-enum-told c = search needs
-
-same-length : tie.Need-same-length Inv-loop μ-loop
-same-length c = search needs
-
 returns : tie.Need-returns Inv-loop μ-loop
+unfolding lineCounts
 returns c =
     let l = c .before .before .before .before in
     stops (l .before .loop .inv .3) (l .loop-test .taken) (turn-is _ _ _ _ _ _ _ _ (c .before .before .group-at .ensures) _ (c .enum-told .given .1))
 
-enum-told-2 : tie.Need-enum-told-2 Inv-loop μ-loop
-enum-told-2 c = search needs
-
-same-length-2 : tie.Need-same-length-2 Inv-loop μ-loop
-same-length-2 c = search needs
-
 returns-2 : tie.Need-returns-2 Inv-loop μ-loop
+unfolding lineCounts
 returns-2 c =
     let l = c .before .before .before .before in
     stops (l .before .loop .inv .3) (l .loop-test .taken) (turn-is _ _ _ _ _ _ _ _ (c .before .before .group-at .ensures) _ (c .enum-told2 .given .1))
-
-add-g : tie.Need-add-g Inv-loop μ-loop
-add-g c = search needs
-
-loop-less : tie.Need-loop-less Inv-loop μ-loop
-loop-less c = search needs
 
 loop-again : tie.Need-loop-again Inv-loop μ-loop
 loop-again c =
@@ -109,10 +81,8 @@ loop-again c =
           (c .before .count-cell .ensures) (c .group-nibbles .ensures .number)),
     )
 
-same-length-3 : tie.Need-same-length-3 Inv-loop μ-loop
-same-length-3 c = search needs
-
 returns-3 : tie.Need-returns-3 Inv-loop μ-loop
+unfolding lineCounts
 returns-3 c = ends (c .before .loop .inv .3) (c .loop-test .left)
 
 pub line-counts-spec : {M : Type 1} → statement M
@@ -121,24 +91,24 @@ line-counts-spec =
     (tie.spec
     Inv-loop
     μ-loop
-    add-groups
+    (λ c. search needs)
     loop-holds
     group-at-requires
-    enum-known-m
+    (λ c. search needs)
     to-hold-requires
     count-cell-requires
     mul-t21
     slice-set-from-cells
     group-nibbles-requires
     add-need
-    enum-told
-    same-length
+    (λ c. search needs)
+    (λ c. search needs)
     returns
-    enum-told-2
-    same-length-2
+    (λ c. search needs)
+    (λ c. search needs)
     returns-2
-    add-g
-    loop-less
+    (λ c. search needs)
+    (λ c. search needs)
     loop-again
-    same-length-3
+    (λ c. search needs)
     returns-3)

@@ -5,7 +5,6 @@ use native.Mathlib.Omega.{arith}
 use borrow.Author.Needs.{needs}
 use lib.IntN.{pos}
 use lib.ListN.{length}
-use Rattle.values.specs.Group.{placed}
 use Rattle.values.proofs.Places.{Placing, starts, places}
 use Rattle.values.proofs.clear_group.Statement.{statement}
 use Rattle.values.proofs.clear_group.Tie as tie

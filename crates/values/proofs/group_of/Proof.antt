@@ -1,7 +1,8 @@
 -- `values::group_of` meets its contract. Assumes nothing.
 use borrow.Author.Needs.{needs}
 use Rattle.whole.proofs.Machine.{back64}
-use Rattle.values.specs.Line.{M, groupOf}
+use Rattle.values.specs.Line.{M}
+use Rattle.values.specs.Steps.{groupOf}
 use Rattle.values.proofs.group_of.Statement.{statement}
 use Rattle.values.proofs.group_of.Tie as tie
 

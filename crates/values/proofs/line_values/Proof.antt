@@ -3,7 +3,7 @@ use Prim.Native.Nat.{_-_, _*_, _≤_, _<_}
 use native.Mathlib.Omega.{arith}
 use borrow.Author.Needs.{needs}
 use lib.ListN.{length}
-use Rattle.values.specs.Line.{HasGroup, groups}
+use Rattle.values.specs.Line.{groups}
 use Rattle.values.proofs.Lines.{Reached, reached-first, reached-next, reached-last, fits-group}
 use Rattle.values.proofs.line_values.Statement.{statement}
 use Rattle.values.proofs.line_values.Tie as tie

@@ -6,7 +6,7 @@ use native.Mathlib.Omega.{arith}
 use borrow.Author.Needs.{needs}
 use denote.Ref.{now}
 use lib.Pow.{pow-mono}
-use Rattle.values.specs.Group.{planes, Magnitudes}
+use Rattle.values.specs.Group.{planes}
 use Rattle.values.proofs.Planes.{Sized, sized, more-sized, below-four}
 use Rattle.values.proofs.magnitudes.Statement.{statement}
 use Rattle.values.proofs.magnitudes.Tie as tie

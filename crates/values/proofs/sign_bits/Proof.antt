@@ -7,7 +7,7 @@ use Rattle.values.proofs.sign_bits.Tie as tie
 
 returns : tie.Need-returns
 unfolding signBits
-returns c = omega arith
+returns c = record { value = omega arith; most = omega arith }
 
 pub sign-bits-spec : {M : Type 1} → statement M
 sign-bits-spec =

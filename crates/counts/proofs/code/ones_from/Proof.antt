@@ -8,10 +8,6 @@ use Rattle.counts.specs.Codes.{ones}
 use Rattle.counts.proofs.Codes.{ones-none, ones-le, ones-cap, ones-full, ones-ended}
 use Rattle.counts.proofs.code.ones_from.Statement.{statement}
 use Rattle.counts.proofs.code.ones_from.Tie as tie
-use Rattle.counts.proofs.code.ones_from.Reads as reads
-use Rattle.counts.proofs.code.ones_from.Lts as lts
-use Rattle.counts.proofs.code.ones_in_byte.Reads as ones-in-byte-reads
-use Rattle.counts.proofs.code.smaller.Reads as smaller-reads
 
 abbrev Inv-loop : tie.InvT-loop
 Inv-loop s at limit n₀ n = (n ≤ limit + 8) × (ones s at n ≡ n)
@@ -21,18 +17,6 @@ abbrev μ-loop : tie.MeasureT-loop
 
 loop-holds : tie.Need-loop-holds Inv-loop μ-loop
 loop-holds c = (search needs, ones-none _ _)
-
-add-w : tie.Need-add-w Inv-loop μ-loop
-add-w c = search needs
-
-sub-w : tie.Need-sub-w Inv-loop μ-loop
-sub-w c = search needs
-
-add-ones-in-byte : tie.Need-add-ones-in-byte Inv-loop μ-loop
-add-ones-in-byte c = search needs
-
-ones-in-byte-requires : tie.Need-ones-in-byte-requires Inv-loop μ-loop
-ones-in-byte-requires c κs = search needs
 
 -- a byte holds no more
 few : (c : tie.After-ones-in-byte Inv-loop μ-loop) → c .ones-in-byte .result ≤ 8
@@ -44,14 +28,8 @@ few c =
 add-n : tie.Need-add-n Inv-loop μ-loop
 add-n c = omega (arith, few c)
 
-smaller-requires : tie.Need-smaller-requires Inv-loop μ-loop
-smaller-requires c κs = search needs
-
 returns : tie.Need-returns Inv-loop μ-loop
 returns c = c .smaller .ensures ∙ sym (ones-ended _ _ _ _ _ (c .before .before .before .before .loop .inv .1) (c .before .before .ones-in-byte .ensures) _ (c .before .if1 .taken))
-
-loop-less : tie.Need-loop-less Inv-loop μ-loop
-loop-less c = search needs
 
 loop-again : tie.Need-loop-again Inv-loop μ-loop
 loop-again c =
@@ -71,13 +49,13 @@ ones-from-spec =
     Inv-loop
     μ-loop
     loop-holds
-    add-w
-    sub-w
-    add-ones-in-byte
-    ones-in-byte-requires
+    (λ c. search needs)
+    (λ c. search needs)
+    (λ c. search needs)
+    (λ c κs. search needs)
     add-n
-    smaller-requires
+    (λ c κs. search needs)
     returns
-    loop-less
+    (λ c. search needs)
     loop-again
     returns-2)

@@ -15,9 +15,6 @@ use Rattle.counts.specs.Codes.{ones}
 use Rattle.counts.proofs.Codes.{ones-read}
 use Rattle.counts.proofs.code.ones_in_byte.Statement.{statement}
 use Rattle.counts.proofs.code.ones_in_byte.Tie as tie
-use Rattle.counts.proofs.code.ones_in_byte.Reads as reads
-use Rattle.counts.proofs.code.ones_in_byte.Lts as lts
-use Rattle.bits.proofs.u8_at.Reads as u8-at-reads
 
 abbrev width : ℕ → ℕ
 width i = 8 - i % 8

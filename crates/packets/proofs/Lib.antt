@@ -1,0 +1,4 @@
+-- Laws of the packets, and the lemmas of the code's proofs.
+pub mod Lines
+pub mod LinePasses
+pub mod Stretches

@@ -1,0 +1,182 @@
+-- The subpackets' stretches and the tables of checks, as the code has them. Assumes nothing.
+use mathlib.Core.Path.{_≡_, refl, sym, ap, subst, _∙_}
+use mathlib.Core.Bool.{Bool, true, false, cond}
+use mathlib.Core.List.{List, [], _∷_, _++_}
+use Prim.Native.Nat.{ℕ, _+_, _-_, _*_, _/_, _^_, _≤_, _<_}
+use native.Mathlib.Omega.{arith}
+use borrow.Author.Tests.{lt-ltb}
+use lib.Dec.{eqb}
+use lib.IntN.{ℤ}
+use lib.ListN.{length}
+use Rattle.whole.specs.Numbers.{ceilDiv}
+use Rattle.rows.specs.Rows.{check, ample, first}
+use Rattle.rows.specs.declared.Verdict.{Verdict}
+use Rattle.rows.specs.declared.Verdict.the-variants.{Fine, Refused}
+use Rattle.rows.specs.declared.Row.the-variants.{Value, Length, Count, Mode}
+use Rattle.rows.specs.declared.Field.the-variants.{Packet, Dr, Lsgn, Significance, Counts, Data, Signs}
+use Rattle.rows.specs.declared.Check.{Check}
+use Rattle.rows.proofs.Tables.{held}
+use Rattle.bits.specs.Packet.{headerBytes}
+use Rattle.bits.specs.declared.packet.PacketHeader.{PacketHeader}
+use Rattle.layout.specs.Slots.{candidates}
+use Rattle.counts.specs.declared.Line.{Line as Counted}
+use Rattle.counts.specs.declared.Line.the-variants.{Done, Cut, High}
+use Rattle.values.specs.declared.Next.{Next}
+use Rattle.packets.specs.declared.Setting.{Setting}
+use Rattle.packets.specs.declared.Precinct.{Precinct}
+use Rattle.packets.specs.declared.Parts.{Parts}
+use Rattle.packets.specs.Precincts.{stretch}
+use Rattle.packets.specs.Passes.{marks, packetCounts, packetValues}
+use Rattle.packets.specs.Packets.{leastDr, mostDr, head, raw, Lsig, sigAt, cntAt, datAt, sgnAt, Lsign, past, headChecks, countChecks, dataChecks, signChecks, afterValues, valuesBy, afterCounts, countsBy}
+use Rattle.packets.specs.Steps.{Working, IsParts, countsOf}
+use Rattle.packets.proofs.LinePasses.{standing-still}
+
+pub chosen-most : (b : Bool) (x : ℕ) → cond b x 0 ≤ x
+chosen-most true x = omega arith
+chosen-most false x = omega arith
+
+pub working-still : {s : List ℕ} {c : Setting} {p : Precinct} {slot n k : ℕ} → Working s c p slot n → k ≡ n → Working s c p slot k
+working-still h e = record { within = h .within; standing = standing-still (h .standing) e }
+
+pub parts-own : {s : List ℕ} {c : Setting} {p : Precinct} {slot at : ℕ} {r : Parts} → IsParts s c p slot at r → IsParts s c p slot (r .at) r
+parts-own {s} {c} {p} {slot} {at} {r} h = subst (λ (n : ℕ). IsParts s c p slot n r) (sym (h .place)) h
+
+module _ (s : List ℕ) (c : Setting) (p : Precinct) (slot at : ℕ) where
+  -- ---- the places
+
+  pub parts-are : {h : PacketHeader} {b n k g : ℕ} → h ≡ head s c p slot at → b ≡ headerBytes (c .widths)
+      → n ≡ marks s c p slot (eqb (h .dr) 1) (candidates (c .shape) slot) → k ≡ ceilDiv n 8 → g ≡ cond (c .fs) (h .lsgn) 0
+      → at + b + k + h .lcnt + h .ldat + g < 2 ^ 40
+      → IsParts s c p slot at
+        (record {
+          at = at;
+          raw = eqb (h .dr) 1;
+          sig = at + b;
+          cnt = at + b + k;
+          dat = at + b + k + h .lcnt;
+          sgn = at + b + k + h .lcnt + h .ldat;
+          past = at + b + k + h .lcnt + h .ldat + g;
+        })
+  unfolding Lsig
+  parts-are e eb en ek eg small =
+      let flags = en ∙ ap (λ (h : PacketHeader). marks s c p slot (eqb (h .dr) 1) (candidates (c .shape) slot)) e in
+      let inferred = ek ∙ ap (λ (n : ℕ). ceilDiv n 8) flags in
+      let signs = eg ∙ ap (λ (h : PacketHeader). cond (c .fs) (h .lsgn) 0) e in
+      record {
+        place = refl;
+        raw = (λ i. eqb (e i .dr) 1);
+        sig = (λ i. at + eb i);
+        cnt = (λ i. at + eb i + inferred i);
+        dat = (λ i. at + eb i + inferred i + e i .lcnt);
+        sgn = (λ i. at + eb i + inferred i + e i .lcnt + e i .ldat);
+        past = (λ i. at + eb i + inferred i + e i .lcnt + e i .ldat + signs i);
+        small = small;
+      }
+
+  -- ---- the header
+
+  module _ {h : PacketHeader} {parts : Parts} (e : h ≡ head s c p slot at) (is : IsParts s c p slot at parts) where
+    pub head-table : (raws : List ℕ) {b lo hi most sig cnt : ℕ} {v : Verdict} → b ≡ headerBytes (c .widths) → lo ≡ leastDr c slot raws → hi ≡ mostDr c slot raws
+        → most ≡ cond (c .fs) ample 0 → sig ≡ p .end - parts .sig → cnt ≡ p .end - parts .cnt
+        → v ≡ first (
+          check Length (p .at) Packet (p .end - at) b ample
+          ∷ check Mode at Dr (h .dr) lo hi
+          ∷ check Value (at + (1 + c .widths .dat + c .widths .cnt) / 8) Lsgn (h .lsgn) 0 most
+          ∷ check Length (parts .sig) Significance sig (parts .cnt - parts .sig) ample
+          ∷ check Length (parts .cnt) Counts cnt (h .lcnt) ample
+          ∷ [])
+        → v ≡ first (headChecks s c p slot at raws)
+    head-table raws {v = v} eb lo hi most sig cnt f =
+        let left = sig ∙ ap (λ (n : ℕ). p .end - n) (is .sig) in
+        let rest = cnt ∙ ap (λ (n : ℕ). p .end - n) (is .cnt) in
+        let long : parts .cnt - parts .sig ≡ Lsig s c p slot at = omega (arith, is .sig, is .cnt) in
+        f ∙ (λ i. first (
+          check Length (p .at) Packet (p .end - at) (eb i) ample
+          ∷ check Mode at Dr (e i .dr) (lo i) (hi i)
+          ∷ check Value (at + (1 + c .widths .dat + c .widths .cnt) / 8) Lsgn (e i .lsgn) 0 (most i)
+          ∷ check Length (is .sig i) Significance (left i) (long i) ample
+          ∷ check Length (is .cnt i) Counts (rest i) (e i .lcnt) ample
+          ∷ []))
+
+  -- past the header the counts' stretch lies in the precinct
+  pub head-inside : (raws : List ℕ) → at ≤ p .end → first (headChecks s c p slot at raws) ≡ Fine → datAt s c p slot at ≤ p .end
+  head-inside raws h e =
+      let t = held (headChecks s c p slot at raws) e in
+      omega (arith, t .0 .least, t .1 .1 .1 .0 .least, t .1 .1 .1 .1 .0 .least)
+
+  module _ {parts : Parts} (is : IsParts s c p slot at parts) where
+    -- the lengths are the differences of the places
+    long-sig : parts .cnt - parts .sig ≡ Lsig s c p slot at
+    long-sig = omega (arith, is .sig, is .cnt)
+
+    long-cnt : parts .dat - parts .cnt ≡ head s c p slot at .lcnt
+    long-cnt = omega (arith, is .cnt, is .dat)
+
+    long-dat : parts .sgn - parts .dat ≡ head s c p slot at .ldat
+    long-dat = omega (arith, is .dat, is .sgn)
+
+    long-sgn : parts .past - parts .sgn ≡ Lsign s c p slot at
+    long-sgn = omega (arith, is .sgn, is .past)
+
+    -- ---- the counts
+
+    pub counts-are : (cells : List ℤ) {y : Counted × List ℤ}
+        → packetCounts s c p slot (stretch s (parts .cnt) (parts .dat - parts .cnt)) (stretch s (parts .sig) (parts .cnt - parts .sig)) (parts .raw) cells ≡ y
+        → countsOf s c p slot at cells ≡ y
+    counts-are cells f =
+        (λ i. packetCounts s c p slot (stretch s (sym (is .cnt) i) (sym long-cnt i)) (stretch s (sym (is .sig) i) (sym long-sig i)) (sym (is .raw) i) cells) ∙ f
+
+    -- ---- behind the counts
+
+    pub done-table : {line : Counted} {next need bytes left : ℕ} {v : Verdict} → line ≡ Done next need → bytes ≡ ceilDiv need 2 → left ≡ p .end - parts .sgn
+        → v ≡ first (
+          check Length (parts .dat) Data (p .end - parts .dat) (parts .sgn - parts .dat) ample
+          ∷ check Length (parts .dat) Data (parts .sgn - parts .dat) bytes ample
+          ∷ check Length (parts .sgn) Signs left (parts .past - parts .sgn) ample
+          ∷ [])
+        → v ≡ first (countChecks s c p slot at line ++ dataChecks s c p slot at line)
+    done-table e b l f =
+        let rest = l ∙ ap (λ (n : ℕ). p .end - n) (is .sgn) in
+        f ∙ (λ i. first (
+          check Length (is .dat i) Data (p .end - is .dat i) (long-dat i) ample
+          ∷ check Length (is .dat i) Data (long-dat i) (b i) ample
+          ∷ check Length (is .sgn i) Signs (rest i) (long-sgn i) ample
+          ∷ []))
+        ∙ (λ i. first (countChecks s c p slot at (sym e i) ++ dataChecks s c p slot at (sym e i)))
+
+    pub done-inside : {line : Counted} {next need : ℕ} {v : Verdict} → line ≡ Done next need → v ≡ first (countChecks s c p slot at line ++ dataChecks s c p slot at line)
+        → parts .dat ≤ p .end → v ≡ Fine → parts .past ≤ p .end
+    done-inside {next = next} {need = need} e f h g =
+        let t = held (dataChecks s c p slot at (Done next need)) ((λ i. first (countChecks s c p slot at (sym e i) ++ dataChecks s c p slot at (sym e i))) ∙ sym f ∙ g) in
+        omega (arith, t .0 .least, t .1 .1 .0 .least, is .dat, is .sgn, is .past)
+
+    pub after-cut : (cells : List ℤ) {line : Counted} {v : Verdict} → line ≡ Cut
+        → v ≡ first (check Length (parts .cnt) Counts (parts .dat - parts .cnt) (parts .dat - parts .cnt + 1) ample ∷ []) → afterCounts s c p slot at (line, cells) ≡ (v, cells)
+    after-cut cells {v = v} e f =
+        let n = head s c p slot at .lcnt in
+        let cut = check Length (cntAt s c p slot at) Counts n (n + 1) ample in
+        let refused : first (cut ∷ []) ≡ Refused cut = rw (lt-ltb n (n + 1) (omega arith)) in
+        let is-cut : v ≡ first (cut ∷ []) = f ∙ (λ i. first (check Length (is .cnt i) Counts (long-cnt i) (long-cnt i + 1) ample ∷ [])) in
+        (λ i. afterCounts s c p slot at (e i, cells)) ∙ (λ i. valuesBy s c p slot at (refused i) cells) ∙ (λ i. (sym (is-cut ∙ refused) i, cells))
+
+    pub after-high : (cells : List ℤ) {line : Counted} {v : Verdict} → line ≡ High → v ≡ first (check Count (parts .cnt) Counts 32 0 31 ∷ [])
+        → afterCounts s c p slot at (line, cells) ≡ (v, cells)
+    after-high cells e f = (λ i. afterCounts s c p slot at (e i, cells)) ∙ (λ i. (sym (f ∙ (λ j. first (check Count (is .cnt j) Counts 32 0 31 ∷ []))) i, cells))
+
+    -- ---- the values
+
+    pub values-are : (cells : List ℤ) {next : Next} {cells′ : List ℤ} {used : ℕ} {v : Verdict}
+        → packetValues c p slot (stretch s (parts .dat) (parts .sgn - parts .dat)) (stretch s (parts .sgn) (parts .past - parts .sgn)) cells ≡ (next, cells′)
+        → used ≡ ceilDiv (next .sign) 8 → v ≡ first (check Length (parts .sgn) Signs (parts .past - parts .sgn) used ample ∷ [])
+        → valuesBy s c p slot at Fine cells ≡ (v, cells′)
+    values-are cells {next} {cells′} f u g =
+        (λ i. afterValues s c p slot at (packetValues c p slot (stretch s (sym (is .dat) i) (sym long-dat i)) (stretch s (sym (is .sgn) i) (sym long-sgn i)) cells))
+        ∙ ap (afterValues s c p slot at) f
+        ∙ (λ i. (sym (g ∙ (λ j. first (check Length (is .sgn j) Signs (long-sgn j) (u j) ample ∷ []))) i, cells′))
+
+  -- a refusal stands
+  pub values-stand : (cells : List ℤ) {v : Verdict} {k : Check} → v ≡ Refused k → valuesBy s c p slot at v cells ≡ (v, cells)
+  values-stand cells e = rw e
+
+  pub counts-stand : (cells : List ℤ) {v : Verdict} {k : Check} → v ≡ Refused k → countsBy s c p slot at v cells ≡ (v, cells)
+  counts-stand cells e = rw e

@@ -1,0 +1,81 @@
+use Prim.Native.Nat.{_≤_, _<_, _-_, _*_, _^_, _+_}
+use mathlib.Core.Path.{_≡_, refl, sym, ap, _∙_}
+use native.Mathlib.Omega.{arith}
+use Rattle.layout.specs.Slots.{candidates}
+use Rattle.packets.proofs.Lines.{lies-read}
+use Rattle.packets.proofs.LinePasses.{marks-none, marks-more}
+use Rattle.packets.specs.Passes.{marks}
+use borrow.Author.Needs.{needs}
+use Rattle.packets.proofs.passes.all_marks.Statement.{statement}
+use Rattle.packets.proofs.passes.all_marks.Tie as tie
+use Rattle.packets.proofs.passes.all_marks.Reads as reads
+use Rattle.packets.proofs.passes.all_marks.Lts as lts
+use Rattle.packets.proofs.passes.candidate.Reads as candidate-reads
+use Rattle.packets.proofs.passes.marks_of.Reads as marks-of-reads
+
+abbrev Inv-loop : tie.InvT-loop
+Inv-loop s c p slot raw n sum₀ j₀ sum j = (j ≤ n) × (sum ≡ marks s c p slot raw j) × (sum ≤ 2 ^ 32 * j)
+
+abbrev μ-loop : tie.MeasureT-loop
+μ-loop s c p slot raw n sum₀ j₀ sum j = n - j
+
+-- src/passes.rt:72:9
+candidate-count-requires : tie.Need-candidate-count-requires Inv-loop μ-loop
+candidate-count-requires c κs = (c .before .before .pre .slotted .settled .shape, c .before .before .pre .slotted .which)
+
+-- src/passes.rt:75:5
+loop-holds : tie.Need-loop-holds Inv-loop μ-loop
+loop-holds c = (omega arith, marks-none _ _ _ _ _, omega arith)
+
+-- src/passes.rt:76:34
+candidate-requires : tie.Need-candidate-requires Inv-loop μ-loop
+candidate-requires c κs = (c .before .before .before .before .before .pre .slotted, omega (arith, c .before .before .candidate-count .ensures .0))
+
+-- src/passes.rt:76:16
+marks-of-requires : tie.Need-marks-of-requires Inv-loop μ-loop
+marks-of-requires c κs = 
+    let start = c .before .before .before .before .before .before in
+    (start .pre .slotted .settled, omega (arith, start .pre .at, start .pre .end, start .pre .short), lies-read (start .pre .slotted) (omega (arith, c .before .loop-test .taken, c .before .before .before .candidate-count .ensures .0)) (c .candidate .ensures))
+
+-- src/passes.rt:76:9
+add-sum : tie.Need-add-sum Inv-loop μ-loop
+add-sum c = omega (arith, c .marks-of .ensures .small, c .before .before .before .loop .inv .2, c .before .before .before .before .candidate-count .ensures .1)
+
+-- src/passes.rt:77:9
+add-j : tie.Need-add-j Inv-loop μ-loop
+add-j c = search needs
+
+-- src/passes.rt:75:5
+loop-less : tie.Need-loop-less Inv-loop μ-loop
+loop-less c = search needs
+
+-- src/passes.rt:75:5
+loop-again : tie.Need-loop-again Inv-loop μ-loop
+loop-again c = 
+    let l = c .before .before .before .loop in
+    (omega arith, marks-more _ _ _ _ _ _ (l .inv .1) (c .before .candidate .ensures) (c .marks-of .ensures .value), omega (arith, c .marks-of .ensures .small, l .inv .2))
+
+-- src/passes.rt:67:1
+returns : tie.Need-returns Inv-loop μ-loop
+returns c = 
+    let l = c .before .loop in
+    let n = c .before .before .candidate-count .ensures in
+    let a = c .before .before .before .before .before .args in
+    let e : l .j ≡ candidates (a .c .shape) (a .slot) = omega (arith, n .0, c .loop-test .left, l .inv .0) in
+    record { value = rw e at (l .inv .1); small = omega (arith, l .inv .2, l .inv .0, n .1) }
+
+pub all-marks-spec : {M : Type 1} → statement M
+all-marks-spec =
+    tie.close
+    (tie.spec
+    Inv-loop
+    μ-loop
+    candidate-count-requires
+    loop-holds
+    candidate-requires
+    marks-of-requires
+    add-sum
+    add-j
+    loop-less
+    loop-again
+    returns)

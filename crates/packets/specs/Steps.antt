@@ -1,0 +1,110 @@
+-- What the steps of a packet ask and answer.
+use Prim.Native.Nat.{ℕ, _+_, _*_, _^_, _≤_, _<_}
+use mathlib.Core.Path.{_≡_}
+use mathlib.Core.Bool.{Bool, true, cond}
+use mathlib.Core.List.{List}
+use lib.IntN.{ℤ}
+use lib.ListN.{length}
+use Rattle.rows.specs.Rows.{first}
+use Rattle.rows.specs.declared.Verdict.the-variants.{Fine}
+use Rattle.layout.specs.declared.Shape.{Shape}
+use Rattle.layout.specs.declared.Line.{Line}
+use Rattle.layout.specs.Bands.{NL, band-exists}
+use Rattle.layout.specs.Precincts.{Npx, Npy}
+use Rattle.layout.specs.Cells.{start}
+use Rattle.layout.specs.Slots.{slots, candidates}
+use Rattle.counts.specs.declared.Line.{Line as Counted}
+use Rattle.counts.specs.declared.Line.the-variants.{Done}
+use Rattle.counts.specs.Lines.{lineCounts}
+use Rattle.values.specs.declared.Next.{Next}
+use Rattle.values.specs.Line.{lineValues}
+use Rattle.packets.specs.declared.Setting.{Setting}
+use Rattle.packets.specs.declared.Precinct.{Precinct}
+use Rattle.packets.specs.declared.Parts.{Parts}
+use Rattle.packets.specs.declared.Opened.{Opened}
+use Rattle.packets.specs.declared.Outcome.{Outcome}
+use Rattle.packets.specs.Precincts.{D, T, stretch}
+use Rattle.packets.specs.Ready.{Settled, Standing}
+use Rattle.packets.specs.Passes.{marks, flags, codingOf, placeOf, valuesOf, valued, packetCounts}
+use Rattle.packets.specs.Packets.{head, raw, Lsig, sigAt, cntAt, datAt, sgnAt, past, headChecks, Left, packet}
+
+-- ---- what is asked: a slot of the precinct, with the stream, and with n cells
+
+pub record Slotted (c : Setting) (p : Precinct) (slot : ℕ) : Type 0 where
+  pub settled : Settled c
+  pub row : p .row < Npy (c .shape)
+  pub column : p .column < Npx (c .shape)
+  pub which : slot < slots (c .shape)
+
+pub record Within (s : List ℕ) (c : Setting) (p : Precinct) (slot : ℕ) : Type 0 where
+  pub slotted : Slotted c p slot
+  pub short : length s < 2 ^ 32
+  pub at : p .at ≤ p .end
+  pub end : p .end ≤ length s
+
+pub record Working (s : List ℕ) (c : Setting) (p : Precinct) (slot n : ℕ) : Type 0 where
+  pub within : Within s c p slot
+  pub standing : Standing s c p n
+
+-- where a line lies that the precinct has: its coefficients and their counts among the cells of all components
+pub record Lies (s : Shape) (row : ℕ) (l : Line) : Type 0 where
+  pub inside : (x : ℕ) → x < l .width → l .cell + x * l .stride + l .area < start s (s .nc)
+  pub apart : (x : ℕ) → x < l .width → x * l .stride < l .area
+  pub narrow : l .width < 2 ^ 32
+  pub few : l .marks < 2 ^ 32
+  pub band : l .band < NL s
+  pub exists : band-exists s (l .band) ≡ true
+  pub above : 0 < row → l .up ≤ l .cell
+
+-- ---- what is answered. Bounds follow from the values, and stand beside them for the callers' sums
+
+pub record IsMode (s : List ℕ) (c : Setting) (p : Precinct) (b r : ℕ) : Type 0 where
+  pub value : r ≡ D s c p b
+  pub below : r < 4
+
+pub record IsTruncation (c : Setting) (p : Precinct) (b r : ℕ) : Type 0 where
+  pub value : r ≡ T c p b
+  pub most : r ≤ 31
+
+pub record IsMarks (s : List ℕ) (c : Setting) (p : Precinct) (raw : Bool) (l : Line) (r : ℕ) : Type 0 where
+  pub value : r ≡ flags s c p raw l
+  pub small : r < 2 ^ 32
+
+pub record AllMarks (s : List ℕ) (c : Setting) (p : Precinct) (slot : ℕ) (raw : Bool) (r : ℕ) : Type 0 where
+  pub value : r ≡ marks s c p slot raw (candidates (c .shape) slot)
+  pub small : r < 2 ^ 40
+
+-- a candidate's counts, and its values: nothing where it is not there
+abbrev pub countLine : List ℕ → Setting → Precinct → List ℕ → List ℕ → Bool → Line → ℕ → ℕ → List ℤ → Counted × List ℤ
+countLine s c p cnt sig raw l at z cells = cond (l .present) (lineCounts cnt sig (codingOf s c p raw (l .band)) (placeOf l) at z cells) (Done at 0, cells)
+
+abbrev pub valueLine : Setting → Precinct → List ℕ → List ℕ → Line → Next → List ℤ → Next × List ℤ
+valueLine c p dat sgn l from cells = cond (l .present) (lineValues dat sgn (valuesOf c) (valued c p l) from cells) (from, cells)
+
+module _ (s : List ℕ) (c : Setting) (p : Precinct) (slot at : ℕ) where
+  -- the counts, from their own stretch
+  abbrev pub countsOf : List ℤ → Counted × List ℤ
+  countsOf cells = packetCounts s c p slot (stretch s (cntAt s c p slot at) (head s c p slot at .lcnt)) (stretch s (sigAt s c p slot at) (Lsig s c p slot at)) (raw s c p slot at) cells
+
+  pub record IsParts (r : Parts) : Type 0 where
+    pub place : r .at ≡ at
+    pub raw : r .raw ≡ raw s c p slot at
+    pub sig : r .sig ≡ sigAt s c p slot at
+    pub cnt : r .cnt ≡ cntAt s c p slot at
+    pub dat : r .dat ≡ datAt s c p slot at
+    pub sgn : r .sgn ≡ sgnAt s c p slot at
+    pub past : r .past ≡ past s c p slot at
+    pub small : r .past < 2 ^ 40
+
+  -- a header that is judged: past it the counts' stretch lies in the precinct
+  pub record Opening (raws : List ℕ) (r : Opened) : Type 0 where
+    pub verdict : r .verdict ≡ first (headChecks s c p slot at raws)
+    pub dr : r .dr ≡ head s c p slot at .dr
+    pub parts : IsParts (r .parts)
+    pub inside : r .verdict ≡ Fine → r .parts .dat ≤ p .end
+
+  -- a packet: what it leaves, its raw flag, and the place behind it
+  pub record Decoded (raws : List ℕ) (cells : List ℤ) (r : Outcome) (cells′ : List ℤ) : Type 0 where
+    pub left : packet s c p slot at raws cells ≡ (r .verdict, cells′)
+    pub dr : r .dr ≡ head s c p slot at .dr
+    pub past : r .past ≡ past s c p slot at
