@@ -89,9 +89,6 @@ ends-at x = λ i. x .is i .end
 
 -- ---- the packets
 
-pub slots-most : (s : Shape) → Built s → slots s ≤ 10
-slots-most s b = omega (arith, pow-mono {i = s .nly} {j = 2} (b .down-levels))
-
 module _ (s : List ℕ) (c : Setting) (row column place slot at : ℕ) (raws : List ℕ) (cells : List ℤ) {p : Precinct} (e : IsPrecinct s c row column place p) where
   packed-is : (v : Verdict) (cells′ : List ℤ) → packed s c row column place slot at raws (v, cells′)
       ≡ onward v (past s c (precinctAt s c row column place) slot at) (set raws slot (head s c (precinctAt s c row column place) slot at .dr)) cells′

@@ -1,11 +1,11 @@
 // C.2: a precinct, its header and its packets.
-use crate::stub::any_line;
-use crate::stub::slot_count;
 use layout::headers::band_count;
 use layout::headers::band_exists;
 use layout::headers::bytes_of_header;
+use layout::lines::slot_count;
 use packets::Precinct;
 use packets::Setting;
+use packets::passes::any_line;
 use picture::segment::left;
 use rows::AMPLE;
 use rows::Check;
@@ -133,7 +133,7 @@ fn packet_turn(
     ensures { λ r. ⌜ Passed (now (s .entry)) c p slot at raws (now (cells .entry)) r (now (cells .exit)) ⌝ }
 {
     if any_line(c, p, slot) {
-        let o = crate::stub::packet(s, cells, c, p, slot, at, raws);
+        let o = packets::packet(s, cells, c, p, slot, at, raws);
         let v = o.verdict;
         let mut flags = raws;
         flags[slot] = o.dr;

@@ -1,9 +1,9 @@
 // Document 01, distance rule 1: the largest T of each band.
 use crate::stub::has_lines;
-use crate::stub::truncation_of;
 use layout::headers::band_count;
 use packets::Precinct;
 use packets::Setting;
+use packets::bands::truncation_of;
 ghost use mathlib.Core.Path.{_≡_};
 ghost use Prim.Native.Nat.{_<_};
 ghost use lib.ListN.{getD};
