@@ -2,3 +2,4 @@
 pub mod Lines
 pub mod LinePasses
 pub mod Stretches
+pub mod Laws

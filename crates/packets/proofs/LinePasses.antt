@@ -2,29 +2,28 @@
 use mathlib.Core.Path.{_≡_, refl, sym, ap, _∙_}
 use mathlib.Core.Bool.{Bool, true, false, not, cond, _&&_, _||_}
 use mathlib.Core.List.{List}
-use Prim.Native.Nat.{ℕ, zero, suc, _+_, _-_, _*_, _/_, _%_, _^_, _≤_, _<_, min}
+use Prim.Native.Nat.{ℕ, zero, suc, _+_, _-_, _*_, _/_, _%_, _^_, _≤_, _<_}
 use native.Mathlib.Omega.{arith}
 use native.Mathlib.Nat.{add-zero}
 use native.Mathlib.Numerals.{add-one}
 use native.Mathlib.Decide.{decLt}
 use borrow.Author.Tests.{eq-eqb, ne-eqb, eqb-false}
-use lib.Dec.{eqb, ltb}
+use lib.Dec.{eqb}
 use lib.IntN.{ℤ}
-use lib.ListN.{length, getD}
+use lib.ListN.{getD}
 use lib.Pow.{pow-mono}
 use Rattle.bits.specs.Fields.{field, IsField}
-use Rattle.loops.specs.Run.{Turn, go, stop}
+use Rattle.loops.specs.Run.{Turn, go}
 use Rattle.layout.specs.declared.Line.{Line}
 use Rattle.layout.specs.Headers.{mode-bit, truncation}
 use Rattle.layout.specs.Cells.{start}
 use Rattle.counts.specs.declared.group.Coding.{Coding}
 use Rattle.counts.specs.declared.group.Mode.{Mode}
-use Rattle.counts.specs.declared.group.Mode.the-variants.{Raw, NoPrediction, Vertical}
+use Rattle.counts.specs.declared.group.Mode.the-variants.{NoPrediction, Vertical}
 use Rattle.counts.specs.declared.Line.{Line as Counted}
-use Rattle.counts.specs.declared.Line.the-variants.{Done, Cut, High}
+use Rattle.counts.specs.declared.Line.the-variants.{Done}
 use Rattle.counts.specs.Lines.{lineCounts, Ready}
 use Rattle.counts.proofs.Laws.{done-need}
-use Rattle.values.specs.declared.Line.{Line as Valued}
 use Rattle.values.specs.declared.Next.{Next}
 use Rattle.values.specs.Line.{lineValues, Fit}
 use Rattle.values.proofs.Lines.{nibbles-most}
@@ -33,9 +32,9 @@ use Rattle.packets.specs.declared.Setting.{Setting}
 use Rattle.packets.specs.declared.Precinct.{Precinct}
 use Rattle.packets.specs.Precincts.{D, T}
 use Rattle.packets.specs.Ready.{Settled, Standing}
-use Rattle.packets.specs.Passes.{line, flags, marks, modeOf, codingOf, placeOf, Counting, counted, countTurn, valuesOf, valued, valueTurn}
+use Rattle.packets.specs.Passes.{line, flags, marks, modeOf, codingOf, placeOf, counted, countTurn, valuesOf, valued, valueTurn}
 use Rattle.packets.specs.Packets.{anyLine}
-use Rattle.packets.specs.Steps.{Slotted, Within, Working, Lies, IsMode, IsTruncation, countLine, valueLine}
+use Rattle.packets.specs.Steps.{Lies, IsMode, IsTruncation, countLine, valueLine}
 
 -- ---- what the precinct header says of a band
 

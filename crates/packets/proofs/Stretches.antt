@@ -2,7 +2,7 @@
 use mathlib.Core.Path.{_≡_, refl, sym, ap, subst, _∙_}
 use mathlib.Core.Bool.{Bool, true, false, cond}
 use mathlib.Core.List.{List, [], _∷_, _++_}
-use Prim.Native.Nat.{ℕ, _+_, _-_, _*_, _/_, _^_, _≤_, _<_}
+use Prim.Native.Nat.{ℕ, _+_, _-_, _/_, _^_, _≤_, _<_}
 use native.Mathlib.Omega.{arith}
 use borrow.Author.Tests.{lt-ltb}
 use lib.Dec.{eqb}
@@ -27,7 +27,7 @@ use Rattle.packets.specs.declared.Precinct.{Precinct}
 use Rattle.packets.specs.declared.Parts.{Parts}
 use Rattle.packets.specs.Precincts.{stretch}
 use Rattle.packets.specs.Passes.{marks, packetCounts, packetValues}
-use Rattle.packets.specs.Packets.{leastDr, mostDr, head, raw, Lsig, sigAt, cntAt, datAt, sgnAt, Lsign, past, headChecks, countChecks, dataChecks, signChecks, afterValues, valuesBy, afterCounts, countsBy}
+use Rattle.packets.specs.Packets.{leastDr, mostDr, head, raw, Lsig, cntAt, datAt, Lsign, past, headChecks, countChecks, dataChecks, afterValues, valuesBy, afterCounts, countsBy}
 use Rattle.packets.specs.Steps.{Working, IsParts, countsOf}
 use Rattle.packets.proofs.LinePasses.{standing-still}
 
@@ -48,15 +48,15 @@ module _ (s : List ℕ) (c : Setting) (p : Precinct) (slot at : ℕ) where
       → n ≡ marks s c p slot (eqb (h .dr) 1) (candidates (c .shape) slot) → k ≡ ceilDiv n 8 → g ≡ cond (c .fs) (h .lsgn) 0
       → at + b + k + h .lcnt + h .ldat + g < 2 ^ 40
       → IsParts s c p slot at
-        (record {
-          at = at;
-          raw = eqb (h .dr) 1;
-          sig = at + b;
-          cnt = at + b + k;
-          dat = at + b + k + h .lcnt;
-          sgn = at + b + k + h .lcnt + h .ldat;
-          past = at + b + k + h .lcnt + h .ldat + g;
-        })
+      (record {
+        at = at;
+        raw = eqb (h .dr) 1;
+        sig = at + b;
+        cnt = at + b + k;
+        dat = at + b + k + h .lcnt;
+        sgn = at + b + k + h .lcnt + h .ldat;
+        past = at + b + k + h .lcnt + h .ldat + g;
+      })
   unfolding Lsig
   parts-are e eb en ek eg small =
       let flags = en ∙ ap (λ (h : PacketHeader). marks s c p slot (eqb (h .dr) 1) (candidates (c .shape) slot)) e in
@@ -79,24 +79,24 @@ module _ (s : List ℕ) (c : Setting) (p : Precinct) (slot at : ℕ) where
     pub head-table : (raws : List ℕ) {b lo hi most sig cnt : ℕ} {v : Verdict} → b ≡ headerBytes (c .widths) → lo ≡ leastDr c slot raws → hi ≡ mostDr c slot raws
         → most ≡ cond (c .fs) ample 0 → sig ≡ p .end - parts .sig → cnt ≡ p .end - parts .cnt
         → v ≡ first (
-          check Length (p .at) Packet (p .end - at) b ample
-          ∷ check Mode at Dr (h .dr) lo hi
-          ∷ check Value (at + (1 + c .widths .dat + c .widths .cnt) / 8) Lsgn (h .lsgn) 0 most
-          ∷ check Length (parts .sig) Significance sig (parts .cnt - parts .sig) ample
-          ∷ check Length (parts .cnt) Counts cnt (h .lcnt) ample
-          ∷ [])
+        check Length (p .at) Packet (p .end - at) b ample
+        ∷ check Mode at Dr (h .dr) lo hi
+        ∷ check Value (at + (1 + c .widths .dat + c .widths .cnt) / 8) Lsgn (h .lsgn) 0 most
+        ∷ check Length (parts .sig) Significance sig (parts .cnt - parts .sig) ample
+        ∷ check Length (parts .cnt) Counts cnt (h .lcnt) ample
+        ∷ [])
         → v ≡ first (headChecks s c p slot at raws)
     head-table raws {v = v} eb lo hi most sig cnt f =
         let left = sig ∙ ap (λ (n : ℕ). p .end - n) (is .sig) in
         let rest = cnt ∙ ap (λ (n : ℕ). p .end - n) (is .cnt) in
         let long : parts .cnt - parts .sig ≡ Lsig s c p slot at = omega (arith, is .sig, is .cnt) in
         f ∙ (λ i. first (
-          check Length (p .at) Packet (p .end - at) (eb i) ample
-          ∷ check Mode at Dr (e i .dr) (lo i) (hi i)
-          ∷ check Value (at + (1 + c .widths .dat + c .widths .cnt) / 8) Lsgn (e i .lsgn) 0 (most i)
-          ∷ check Length (is .sig i) Significance (left i) (long i) ample
-          ∷ check Length (is .cnt i) Counts (rest i) (e i .lcnt) ample
-          ∷ []))
+        check Length (p .at) Packet (p .end - at) (eb i) ample
+        ∷ check Mode at Dr (e i .dr) (lo i) (hi i)
+        ∷ check Value (at + (1 + c .widths .dat + c .widths .cnt) / 8) Lsgn (e i .lsgn) 0 (most i)
+        ∷ check Length (is .sig i) Significance (left i) (long i) ample
+        ∷ check Length (is .cnt i) Counts (rest i) (e i .lcnt) ample
+        ∷ []))
 
   -- past the header the counts' stretch lies in the precinct
   pub head-inside : (raws : List ℕ) → at ≤ p .end → first (headChecks s c p slot at raws) ≡ Fine → datAt s c p slot at ≤ p .end
@@ -130,18 +130,18 @@ module _ (s : List ℕ) (c : Setting) (p : Precinct) (slot at : ℕ) where
 
     pub done-table : {line : Counted} {next need bytes left : ℕ} {v : Verdict} → line ≡ Done next need → bytes ≡ ceilDiv need 2 → left ≡ p .end - parts .sgn
         → v ≡ first (
-          check Length (parts .dat) Data (p .end - parts .dat) (parts .sgn - parts .dat) ample
-          ∷ check Length (parts .dat) Data (parts .sgn - parts .dat) bytes ample
-          ∷ check Length (parts .sgn) Signs left (parts .past - parts .sgn) ample
-          ∷ [])
+        check Length (parts .dat) Data (p .end - parts .dat) (parts .sgn - parts .dat) ample
+        ∷ check Length (parts .dat) Data (parts .sgn - parts .dat) bytes ample
+        ∷ check Length (parts .sgn) Signs left (parts .past - parts .sgn) ample
+        ∷ [])
         → v ≡ first (countChecks s c p slot at line ++ dataChecks s c p slot at line)
     done-table e b l f =
         let rest = l ∙ ap (λ (n : ℕ). p .end - n) (is .sgn) in
         f ∙ (λ i. first (
-          check Length (is .dat i) Data (p .end - is .dat i) (long-dat i) ample
-          ∷ check Length (is .dat i) Data (long-dat i) (b i) ample
-          ∷ check Length (is .sgn i) Signs (rest i) (long-sgn i) ample
-          ∷ []))
+        check Length (is .dat i) Data (p .end - is .dat i) (long-dat i) ample
+        ∷ check Length (is .dat i) Data (long-dat i) (b i) ample
+        ∷ check Length (is .sgn i) Signs (rest i) (long-sgn i) ample
+        ∷ []))
         ∙ (λ i. first (countChecks s c p slot at (sym e i) ++ dataChecks s c p slot at (sym e i)))
 
     pub done-inside : {line : Counted} {next need : ℕ} {v : Verdict} → line ≡ Done next need → v ≡ first (countChecks s c p slot at line ++ dataChecks s c p slot at line)

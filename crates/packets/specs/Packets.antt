@@ -1,7 +1,7 @@
 -- C.3 and C.4: a packet, its header and its subpackets in their order. Each subpacket is judged whole before the next: does it run past the precinct,
 -- then its content. `slot` says which of its precinct's packets it is, `at` where its header stands.
-use Prim.Native.Nat.{ℕ, zero, suc, _+_, _*_, _-_, _/_, _≤_}
-use mathlib.Core.Bool.{Bool, true, false, not, cond, _&&_, _||_}
+use Prim.Native.Nat.{ℕ, zero, suc, _+_, _-_, _/_}
+use mathlib.Core.Bool.{Bool, false, not, cond, _&&_, _||_}
 use mathlib.Core.List.{List, [], _∷_, _++_}
 use lib.Dec.{eqb, leb}
 use lib.IntN.{ℤ}

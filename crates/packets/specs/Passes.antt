@@ -1,7 +1,7 @@
 -- The passes over the lines of a packet (Tables C.6, C.8, C.9 and C.10). Line j is candidate j of the packet's slot; one that the precinct does not have
 -- is passed over.
-use Prim.Native.Nat.{ℕ, zero, suc, _+_, _*_, _/_, _%_}
-use mathlib.Core.Bool.{Bool, true, false, not, cond, _&&_}
+use Prim.Native.Nat.{ℕ, zero, suc, _+_, _/_, _%_}
+use mathlib.Core.Bool.{Bool, not, cond, _&&_}
 use mathlib.Core.List.{List}
 use lib.Dec.{eqb}
 use lib.IntN.{ℤ}

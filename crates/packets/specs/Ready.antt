@@ -9,10 +9,12 @@ use Rattle.layout.specs.Bands.{NL, band-exists}
 use Rattle.layout.specs.Built.{Built}
 use Rattle.layout.specs.Precincts.{Npx, Npy}
 use Rattle.layout.specs.Cells.{start}
+use Rattle.layout.specs.Slots.{slots}
 use Rattle.packets.specs.declared.Setting.{Setting}
 use Rattle.packets.specs.declared.Precinct.{Precinct}
 use Rattle.packets.specs.Precincts.{D}
 
+-- gains are 0 to 15
 pub record Settled (c : Setting) : Type 0 where
   pub shape : Built (c .shape)
   pub widths : Fit (c .widths)
@@ -29,3 +31,10 @@ pub record Standing (s : List ℕ) (c : Setting) (p : Precinct) (cells : ℕ) : 
   pub end : p .end ≤ length s
   pub predicted : (b : ℕ) → b < NL (c .shape) → band-exists (c .shape) b ≡ true → D s c p b % 2 ≡ 1 → 0 < p .row
   pub room : start (c .shape) (c .shape .nc) ≤ cells
+
+-- one of the precinct's slots
+pub record Slotted (c : Setting) (p : Precinct) (slot : ℕ) : Type 0 where
+  pub settled : Settled c
+  pub row : p .row < Npy (c .shape)
+  pub column : p .column < Npx (c .shape)
+  pub which : slot < slots (c .shape)

@@ -10,9 +10,8 @@ use Rattle.rows.specs.declared.Verdict.the-variants.{Fine}
 use Rattle.layout.specs.declared.Shape.{Shape}
 use Rattle.layout.specs.declared.Line.{Line}
 use Rattle.layout.specs.Bands.{NL, band-exists}
-use Rattle.layout.specs.Precincts.{Npx, Npy}
 use Rattle.layout.specs.Cells.{start}
-use Rattle.layout.specs.Slots.{slots, candidates}
+use Rattle.layout.specs.Slots.{candidates}
 use Rattle.counts.specs.declared.Line.{Line as Counted}
 use Rattle.counts.specs.declared.Line.the-variants.{Done}
 use Rattle.counts.specs.Lines.{lineCounts}
@@ -24,17 +23,11 @@ use Rattle.packets.specs.declared.Parts.{Parts}
 use Rattle.packets.specs.declared.Opened.{Opened}
 use Rattle.packets.specs.declared.Outcome.{Outcome}
 use Rattle.packets.specs.Precincts.{D, T, stretch}
-use Rattle.packets.specs.Ready.{Settled, Standing}
+use Rattle.packets.specs.Ready.{Slotted, Standing}
 use Rattle.packets.specs.Passes.{marks, flags, codingOf, placeOf, valuesOf, valued, packetCounts}
-use Rattle.packets.specs.Packets.{head, raw, Lsig, sigAt, cntAt, datAt, sgnAt, past, headChecks, Left, packet}
+use Rattle.packets.specs.Packets.{head, raw, Lsig, sigAt, cntAt, datAt, sgnAt, past, headChecks, packet}
 
--- ---- what is asked: a slot of the precinct, with the stream, and with n cells
-
-pub record Slotted (c : Setting) (p : Precinct) (slot : ℕ) : Type 0 where
-  pub settled : Settled c
-  pub row : p .row < Npy (c .shape)
-  pub column : p .column < Npx (c .shape)
-  pub which : slot < slots (c .shape)
+-- ---- what is asked: a slot of a precinct with the stream, and with n cells
 
 pub record Within (s : List ℕ) (c : Setting) (p : Precinct) (slot : ℕ) : Type 0 where
   pub slotted : Slotted c p slot

@@ -139,20 +139,26 @@ fn open(s: &[u8], c: Setting, p: Precinct, slot: usize, at: usize, raws: [usize;
     let least = bound_flag(c, slot, raws, 0);
     let most = bound_flag(c, slot, raws, 1);
     let signs = rows::choose(c.fs, AMPLE, 0);
-    let sgn_at = at + (1 + widths.dat + widths.cnt) / 8;
+    let signs_at = at + (1 + widths.dat + widths.cnt) / 8;
+    let bytes = widths.bytes();
+    let end = p.end;
+    let sig = parts.sig;
+    let cnt = parts.cnt;
+    let left = less(end, sig);
+    let rest = less(end, cnt);
     let v = rows::first([
-        Check(Row::Length, p.at, Field::Packet, p.end - at, widths.bytes(), AMPLE),
+        Check(Row::Length, p.at, Field::Packet, end - at, bytes, AMPLE),
         Check(Row::Mode, at, Field::Dr, h.dr, least, most),
-        Check(Row::Value, sgn_at, Field::Lsgn, h.lsgn, 0, signs),
+        Check(Row::Value, signs_at, Field::Lsgn, h.lsgn, 0, signs),
         Check(
             Row::Length,
-            parts.sig,
+            sig,
             Field::Significance,
-            less(p.end, parts.sig),
-            parts.cnt - parts.sig,
+            left,
+            cnt - sig,
             AMPLE,
         ),
-        Check(Row::Length, parts.cnt, Field::Counts, less(p.end, parts.cnt), h.lcnt, AMPLE),
+        Check(Row::Length, cnt, Field::Counts, rest, h.lcnt, AMPLE),
         HOLDS,
         HOLDS,
         HOLDS,
@@ -165,7 +171,14 @@ fn open(s: &[u8], c: Setting, p: Precinct, slot: usize, at: usize, raws: [usize;
 }
 
 // The data and the signs, each from its own stretch, and then whether the signs' stretch was long enough.
-fn values(s: &[u8], cells: &mut [i64], c: Setting, p: Precinct, slot: usize, parts: Parts) -> Verdict
+fn values(
+    s: &[u8],
+    cells: &mut [i64],
+    c: Setting,
+    p: Precinct,
+    slot: usize,
+    parts: Parts,
+) -> Verdict
     requires { ⌜ Working (now s) c p slot (length (now cells)) × IsParts (now s) c p slot (parts .at) parts × (parts .past ≤ length (now s)) ⌝ }
     ensures { λ r. ⌜ valuesBy (now (s .entry)) c p slot (parts .at) Fine (now (cells .entry)) ≡ (r, now (cells .exit)) ⌝ }
 {
@@ -179,7 +192,15 @@ fn values(s: &[u8], cells: &mut [i64], c: Setting, p: Precinct, slot: usize, par
     rows::one(Check(Row::Length, b, Field::Signs, e - b, used, AMPLE))
 }
 
-fn values_by(v: Verdict, s: &[u8], cells: &mut [i64], c: Setting, p: Precinct, slot: usize, parts: Parts) -> Verdict
+fn values_by(
+    v: Verdict,
+    s: &[u8],
+    cells: &mut [i64],
+    c: Setting,
+    p: Precinct,
+    slot: usize,
+    parts: Parts,
+) -> Verdict
     requires { ⌜ Working (now s) c p slot (length (now cells)) × IsParts (now s) c p slot (parts .at) parts × (v ≡ Fine → parts .past ≤ length (now s)) ⌝ }
     ensures { λ r. ⌜ valuesBy (now (s .entry)) c p slot (parts .at) v (now (cells .entry)) ≡ (r, now (cells .exit)) ⌝ }
 {
@@ -207,10 +228,14 @@ fn after_counts(
     let sgn = parts.sgn;
     match line {
         counts::Line::Done { next: _, need } => {
+            let size = sgn - dat;
+            let bytes = bytes_of_nibbles(need);
+            let left = less(p.end, sgn);
+            let signs = parts.past - sgn;
             let v = rows::first([
-                Check(Row::Length, dat, Field::Data, p.end - dat, sgn - dat, AMPLE),
-                Check(Row::Length, dat, Field::Data, sgn - dat, bytes_of_nibbles(need), AMPLE),
-                Check(Row::Length, sgn, Field::Signs, less(p.end, sgn), parts.past - sgn, AMPLE),
+                Check(Row::Length, dat, Field::Data, p.end - dat, size, AMPLE),
+                Check(Row::Length, dat, Field::Data, size, bytes, AMPLE),
+                Check(Row::Length, sgn, Field::Signs, left, signs, AMPLE),
                 HOLDS,
                 HOLDS,
                 HOLDS,
@@ -219,13 +244,23 @@ fn after_counts(
             ]);
             values_by(v, s, cells, c, p, slot, parts)
         }
-        counts::Line::Cut => rows::one(Check(Row::Length, cnt, Field::Counts, dat - cnt, dat - cnt + 1, AMPLE)),
+        counts::Line::Cut => {
+            let size = dat - cnt;
+            rows::one(Check(Row::Length, cnt, Field::Counts, size, size + 1, AMPLE))
+        }
         counts::Line::High => rows::one(Check(Row::Count, cnt, Field::Counts, 32, 0, 31)),
     }
 }
 
 // The counts, from their own stretch and that of the significance flags.
-fn counts_of(s: &[u8], cells: &mut [i64], c: Setting, p: Precinct, slot: usize, parts: Parts) -> counts::Line
+fn counts_of(
+    s: &[u8],
+    cells: &mut [i64],
+    c: Setting,
+    p: Precinct,
+    slot: usize,
+    parts: Parts,
+) -> counts::Line
     requires { ⌜ Working (now s) c p slot (length (now cells)) × IsParts (now s) c p slot (parts .at) parts × (parts .dat ≤ p .end) ⌝ }
     ensures { λ r. ⌜ countsOf (now (s .entry)) c p slot (parts .at) (now (cells .entry)) ≡ (r, now (cells .exit)) ⌝ }
 {
@@ -237,7 +272,15 @@ fn counts_of(s: &[u8], cells: &mut [i64], c: Setting, p: Precinct, slot: usize, 
     passes::packet_counts(s, cnt, sig, cells, c, p, slot, parts.raw)
 }
 
-fn counts_by(v: Verdict, s: &[u8], cells: &mut [i64], c: Setting, p: Precinct, slot: usize, parts: Parts) -> Verdict
+fn counts_by(
+    v: Verdict,
+    s: &[u8],
+    cells: &mut [i64],
+    c: Setting,
+    p: Precinct,
+    slot: usize,
+    parts: Parts,
+) -> Verdict
     requires { ⌜ Working (now s) c p slot (length (now cells)) × IsParts (now s) c p slot (parts .at) parts × (v ≡ Fine → parts .dat ≤ p .end) ⌝ }
     ensures { λ r. ⌜ countsBy (now (s .entry)) c p slot (parts .at) v (now (cells .entry)) ≡ (r, now (cells .exit)) ⌝ }
 {

@@ -17,8 +17,8 @@ ghost use Rattle.layout.specs.Cells.{start};
 ghost use Rattle.layout.specs.Slots.{candidates};
 ghost use Rattle.packets.specs.Passes.{line, modeOf, codingOf, packetCounts, packetValues};
 ghost use Rattle.packets.specs.Packets.{anyLine};
-ghost use Rattle.packets.specs.Ready.{Settled, Standing};
-ghost use Rattle.packets.specs.Steps.{Slotted, Within, Working, Lies, IsMarks, AllMarks, countLine, valueLine};
+ghost use Rattle.packets.specs.Ready.{Settled, Standing, Slotted};
+ghost use Rattle.packets.specs.Steps.{Within, Working, Lies, IsMarks, AllMarks, countLine, valueLine};
 
 // Candidate j of a slot.
 fn candidate(c: Setting, p: Precinct, slot: usize, j: usize) -> Line
@@ -135,10 +135,7 @@ fn count_line(
         };
         return counts::line_counts(cnt, sig, cells, coding, place, at, z);
     }
-    counts::Line::Done {
-        next: at,
-        need: 0,
-    }
+    counts::Line::Done { next: at, need: 0 }
 }
 
 // The counts of all lines, from their stretch and that of the significance flags.

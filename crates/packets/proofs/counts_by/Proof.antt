@@ -1,50 +1,31 @@
+-- `packets::counts_by` meets its contract. Assumes nothing.
 use denote.Ref.{now}
-use mathlib.Core.Path.{_≡_, refl, sym, ap, _∙_}
+use mathlib.Core.Path.{ap, _∙_}
 use Rattle.packets.proofs.Stretches.{working-still, counts-stand}
 use Rattle.rows.specs.declared.Verdict.{Verdict}
 use Rattle.packets.specs.Packets.{afterCounts, countsBy}
 use borrow.Author.Needs.{needs}
 use Rattle.packets.proofs.counts_by.Statement.{statement}
 use Rattle.packets.proofs.counts_by.Tie as tie
-use Rattle.packets.proofs.counts_by.Reads as reads
-use Rattle.packets.proofs.counts_by.Lts as lts
-use Rattle.packets.proofs.after_counts.Reads as after-counts-reads
-use Rattle.packets.proofs.counts_of.Reads as counts-of-reads
 
--- src/lib.rt:246:37
-enum-told : tie.Need-enum-told
-enum-told c = search needs
-
--- src/lib.rt:246:17
 counts-of-requires : tie.Need-counts-of-requires
-counts-of-requires c κs = 
+counts-of-requires c κs =
     let start = c .before .before .before .before in
     (start .pre .0, start .pre .1, start .pre .2 (c .before .enum-told .given .1))
 
--- src/lib.rt:247:13
 after-counts-requires : tie.Need-after-counts-requires
-after-counts-requires c κs = 
+after-counts-requires c κs =
     let start = c .before .before .before .before .before .before .before in
     (working-still (start .pre .0) (c .before .before .counts-of .kept .1 .0), start .pre .1, start .pre .2 (c .before .before .before .before .enum-told .given .1))
 
--- src/lib.rt:249:32
-enum-told-2 : tie.Need-enum-told-2
-enum-told-2 c = search needs
-
--- src/lib.rt:240:1
-same-length : tie.Need-same-length
-same-length c = search needs
-
--- src/lib.rt:240:1
 returns : tie.Need-returns
-returns c = 
+returns c =
     let a = c .before .before .before .before .before .before .before .before .before .args in
     ap (λ (v : Verdict). countsBy (now (a .s)) (a .c) (a .p) (a .slot) (a .parts .at) v (now (a .cells))) (c .before .before .before .before .before .before .enum-told .given .1)
     ∙ ap (afterCounts (now (a .s)) (a .c) (a .p) (a .slot) (a .parts .at)) (c .before .before .before .before .counts-of .ensures) ∙ c .before .after-counts .ensures
 
--- src/lib.rt:240:1
 returns-2 : tie.Need-returns-2
-returns-2 c = 
+returns-2 c =
     let a = c .before .before .before .args in
     counts-stand (now (a .s)) (a .c) (a .p) (a .slot) (a .parts .at) (now (a .cells)) (c .enum-told2 .given .1)
 
@@ -52,10 +33,10 @@ pub counts-by-spec : {M : Type 1} → statement M
 counts-by-spec =
     tie.close
     (tie.spec
-    enum-told
+    (λ c. search needs)
     counts-of-requires
     after-counts-requires
-    enum-told-2
-    same-length
+    (λ c. search needs)
+    (λ c. search needs)
     returns
     returns-2)

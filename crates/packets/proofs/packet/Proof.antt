@@ -1,16 +1,12 @@
+-- `packets::packet` meets its contract. Assumes nothing.
 use denote.Ref.{now}
-use mathlib.Core.Path.{_≡_, refl, sym, ap, _∙_}
+use mathlib.Core.Path.{sym, _∙_}
 use Rattle.packets.proofs.Stretches.{parts-own}
 use Rattle.packets.specs.Packets.{countsBy, packet}
-use Rattle.packets.specs.Ready.{Settled, Standing}
 use Rattle.packets.specs.Steps.{Within}
 use borrow.Author.Needs.{needs}
 use Rattle.packets.proofs.packet.Statement.{statement}
 use Rattle.packets.proofs.packet.Tie as tie
-use Rattle.packets.proofs.packet.Reads as reads
-use Rattle.packets.proofs.packet.Lts as lts
-use Rattle.packets.proofs.counts_by.Reads as counts-by-reads
-use Rattle.packets.proofs.open.Reads as open-reads
 
 within : (c : tie.Start) → Within (now (c .args .s)) (c .args .c) (c .args .p) (c .args .slot)
 within c =
@@ -22,25 +18,18 @@ within c =
       end = at .end;
     }
 
--- src/lib.rt:266:9
 open-requires : tie.Need-open-requires
 open-requires c κs = (within (c .before), c .before .pre .2)
 
--- src/lib.rt:269:9
 counts-by-requires : tie.Need-counts-by-requires
-counts-by-requires c κs = 
+counts-by-requires c κs =
     let start = c .before .before .before .before in
     let o = c .before .before .«open» .ensures in
     (record { within = within start; standing = start .pre .1 }, parts-own (o .parts), o .inside)
 
--- src/lib.rt:254:1
-same-length : tie.Need-same-length
-same-length c = search needs
-
--- src/lib.rt:254:1
 returns : tie.Need-returns
 unfolding packet
-returns c = 
+returns c =
     let a = c .before .before .before .before .before .before .args in
     let o = c .before .before .before .before .«open» .ensures in
     record {
@@ -50,4 +39,4 @@ returns c =
     }
 
 pub packet-spec : {M : Type 1} → statement M
-packet-spec = tie.close (tie.spec open-requires counts-by-requires same-length returns)
+packet-spec = tie.close (tie.spec open-requires counts-by-requires (λ c. search needs) returns)

@@ -1,45 +1,28 @@
+-- `packets::values_by` meets its contract. Assumes nothing.
 use denote.Ref.{now}
-use mathlib.Core.Path.{_≡_, refl, sym, ap, _∙_}
+use mathlib.Core.Path.{ap, _∙_}
 use Rattle.packets.proofs.Stretches.{values-stand}
 use Rattle.rows.specs.declared.Verdict.{Verdict}
 use Rattle.packets.specs.Packets.{valuesBy}
 use borrow.Author.Needs.{needs}
 use Rattle.packets.proofs.values_by.Statement.{statement}
 use Rattle.packets.proofs.values_by.Tie as tie
-use Rattle.packets.proofs.values_by.Reads as reads
-use Rattle.packets.proofs.values_by.Lts as lts
-use Rattle.packets.proofs.values.Reads as values-reads
 
--- src/lib.rt:187:36
-enum-told : tie.Need-enum-told
-enum-told c = search needs
-
--- src/lib.rt:187:26
 values-requires : tie.Need-values-requires
-values-requires c κs = 
+values-requires c κs =
     let start = c .before .before .before .before in
     (start .pre .0, start .pre .1, start .pre .2 (c .before .enum-told .given .1))
 
--- src/lib.rt:188:32
-enum-told-2 : tie.Need-enum-told-2
-enum-told-2 c = search needs
-
--- src/lib.rt:182:1
-same-length : tie.Need-same-length
-same-length c = search needs
-
--- src/lib.rt:182:1
 returns : tie.Need-returns
-returns c = 
+returns c =
     let a = c .before .before .before .before .before .before .args in
     ap (λ (v : Verdict). valuesBy (now (a .s)) (a .c) (a .p) (a .slot) (a .parts .at) v (now (a .cells))) (c .before .before .before .enum-told .given .1) ∙ c .before .values .ensures
 
--- src/lib.rt:182:1
 returns-2 : tie.Need-returns-2
-returns-2 c = 
+returns-2 c =
     let a = c .before .before .before .args in
     values-stand (now (a .s)) (a .c) (a .p) (a .slot) (a .parts .at) (now (a .cells)) (c .enum-told2 .given .1)
 
 pub values-by-spec : {M : Type 1} → statement M
 values-by-spec =
-    tie.close (tie.spec enum-told values-requires enum-told-2 same-length returns returns-2)
+    tie.close (tie.spec (λ c. search needs) values-requires (λ c. search needs) (λ c. search needs) returns returns-2)

@@ -1,33 +1,25 @@
+-- `packets::bands::truncation_of` meets its contract. Assumes nothing.
 use native.Mathlib.Omega.{arith}
 use Rattle.packets.proofs.LinePasses.{truncation-is}
 use Rattle.layout.proofs.Sums.{bands-most}
-use borrow.Author.Needs.{needs}
 use Rattle.packets.proofs.bands.truncation_of.Statement.{statement}
 use Rattle.packets.proofs.bands.truncation_of.Tie as tie
-use Rattle.packets.proofs.bands.truncation_of.Reads as reads
-use Rattle.packets.proofs.bands.truncation_of.Lts as lts
 
--- src/bands.rt:25:16
 mul-gain : tie.Need-mul-gain
 mul-gain c = omega (arith, bands-most _ (c .before .before .pre .0 .shape), c .before .before .pre .1)
 
--- src/bands.rt:25:16
 array-read-gain : tie.Need-array-read-gain
 array-read-gain c = omega (arith, bands-most _ (c .before .before .pre .0 .shape), c .before .before .pre .1)
 
--- src/bands.rt:26:20
 mul-priority : tie.Need-mul-priority
 mul-priority c = omega (arith, bands-most _ (c .before .before .pre .0 .shape), c .before .before .pre .1)
 
--- src/bands.rt:26:20
 array-read-priority : tie.Need-array-read-priority
 array-read-priority c = omega (arith, bands-most _ (c .before .before .pre .0 .shape), c .before .before .pre .1)
 
--- src/bands.rt:27:5
 truncation-of-requires : tie.Need-truncation-of-requires
 truncation-of-requires c κs = (omega (arith, c .before .before .pre .0 .gains (c .before .before .args .b)), c .before .before .pre .0 .br)
 
--- src/bands.rt:19:1
 returns : tie.Need-returns
 returns c = truncation-is _ _ _ (c .truncation-of .ensures .0) (c .truncation-of .ensures .1)
 

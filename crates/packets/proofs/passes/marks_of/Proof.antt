@@ -1,39 +1,31 @@
+-- `packets::passes::marks_of` meets its contract. Assumes nothing.
 use denote.Ref.{now}
 use native.Mathlib.Omega.{arith}
 use Rattle.packets.proofs.LinePasses.{flags-raw, flags-absent, flags-there, flags-plain}
-use borrow.Author.Needs.{needs}
 use Rattle.packets.proofs.passes.marks_of.Statement.{statement}
 use Rattle.packets.proofs.passes.marks_of.Tie as tie
-use Rattle.packets.proofs.passes.marks_of.Reads as reads
-use Rattle.packets.proofs.passes.marks_of.Lts as lts
-use Rattle.packets.proofs.bands.mode_of.Reads as mode-of-reads
 
--- src/passes.rt:56:9
 returns : tie.Need-returns
 returns c =
     let a = c .before .before .args in
     record { value = flags-raw (now (a .s)) (a .c) (a .p) (a .l) (c .if1 .taken); small = omega arith }
 
--- src/passes.rt:59:12
 mode-of-requires : tie.Need-mode-of-requires
 mode-of-requires c κs = (c .before .before .before .pre .0, c .before .before .before .pre .1, c .before .before .before .pre .2 (c .if2 .taken) .band)
 
--- src/passes.rt:60:13
 returns-2 : tie.Need-returns-2
-returns-2 c = 
+returns-2 c =
     let l = c .before .before in
     let start = l .before .before .before in
     let a = start .args in
     record { value = flags-there (now (a .s)) (a .c) (a .p) (a .l) (l .if2 .taken) (l .before .if1 .left) (c .before .mode-of .ensures .value) (c .if3 .taken); small = start .pre .2 (l .if2 .taken) .few }
 
--- src/passes.rt:51:1
 returns-3 : tie.Need-returns-3
-returns-3 c = 
+returns-3 c =
     let l = c .before .before in
     let a = l .before .before .before .args in
     record { value = flags-plain (now (a .s)) (a .c) (a .p) (a .l) (l .if2 .taken) (l .before .if1 .left) (c .before .mode-of .ensures .value) (c .if3 .left); small = omega arith }
 
--- src/passes.rt:51:1
 returns-4 : tie.Need-returns-4
 returns-4 c =
     let a = c .before .before .before .args in

@@ -1,36 +1,24 @@
+-- `packets::passes::value_line` meets its contract. Assumes nothing.
 use denote.Ref.{now}
-use native.Mathlib.Omega.{arith}
 use Rattle.packets.proofs.LinePasses.{value-fit, value-there, value-absent}
 use borrow.Author.Needs.{needs}
 use Rattle.packets.proofs.passes.value_line.Statement.{statement}
 use Rattle.packets.proofs.passes.value_line.Tie as tie
-use Rattle.packets.proofs.passes.value_line.Reads as reads
-use Rattle.packets.proofs.passes.value_line.Lts as lts
-use Rattle.packets.proofs.bands.truncation_of.Reads as truncation-of-reads
-use Rattle.values.proofs.line_values.Reads as line-values-reads
 
--- src/passes.rt:211:16
 truncation-of-requires : tie.Need-truncation-of-requires
 truncation-of-requires c κs = (c .before .before .before .pre .0, c .before .before .before .pre .1 (c .if1 .taken) .band)
 
--- src/passes.rt:213:9
 line-values-requires : tie.Need-line-values-requires
-line-values-requires c κs = 
+line-values-requires c κs =
     let start = c .before .before .before .before .before in
     let a = start .args in
     value-fit (a .c) (a .p .row) (a .l) (start .pre .0) (start .pre .1 (c .before .before .if1 .taken)) (start .pre .2) (start .pre .3) (start .pre .4)
 
--- src/passes.rt:213:9
-same-length : tie.Need-same-length
-same-length c = search needs
-
--- src/passes.rt:213:9
 returns : tie.Need-returns
 returns c =
     let a = c .before .before .before .before .before .before .before .args in
     value-there (a .c) (a .p) (now (a .dat)) (now (a .sgn)) (a .l) (a .from) (now (a .cells)) (c .before .before .before .before .if1 .taken) (c .before .before .before .truncation-of .ensures .value) (c .before .line-values .ensures)
 
--- src/passes.rt:188:1
 returns-2 : tie.Need-returns-2
 returns-2 c =
     let a = c .before .before .before .args in
@@ -38,4 +26,4 @@ returns-2 c =
 
 pub value-line-spec : {M : Type 1} → statement M
 value-line-spec =
-    tie.close (tie.spec truncation-of-requires line-values-requires same-length returns returns-2)
+    tie.close (tie.spec truncation-of-requires line-values-requires (λ c. search needs) returns returns-2)

@@ -1,0 +1,153 @@
+-- What a packet leaves, for the layers above: where it ends, and which cells it changes. Assumes nothing.
+use mathlib.Core.Path.{_≡_, refl, ap, _∙_}
+use mathlib.Core.Bool.{Bool, true, false, cond}
+use mathlib.Core.List.{List, _++_}
+use Prim.Native.Nat.{ℕ, _+_, _-_, _*_, _≤_, _<_}
+use native.Mathlib.Omega.{arith}
+use lib.IntN.{ℤ}
+use lib.ListN.{length}
+use Rattle.whole.specs.Cells.{cell}
+use Rattle.loops.specs.Run.{Turn, go, run}
+use Rattle.loops.proofs.Laws.{Kept, run-keeps}
+use Rattle.rows.specs.Rows.{first}
+use Rattle.rows.specs.declared.Check.{Check}
+use Rattle.rows.specs.declared.Verdict.{Verdict}
+use Rattle.rows.specs.declared.Verdict.the-variants.{Fine, Refused}
+use Rattle.rows.proofs.Tables.{held}
+use Rattle.layout.specs.declared.Line.{Line}
+use Rattle.layout.specs.Cells.{start}
+use Rattle.layout.specs.Slots.{candidates}
+use Rattle.counts.specs.declared.group.Coding.{Coding}
+use Rattle.counts.specs.declared.Line.{Line as Counted}
+use Rattle.counts.specs.declared.Line.the-variants.{Done, Cut, High}
+use Rattle.counts.specs.Lines.{lineCounts}
+use Rattle.counts.proofs.Laws.{line-length as counts-length, line-other as counts-other}
+use Rattle.values.specs.declared.Next.{Next}
+use Rattle.values.specs.Line.{lineValues}
+use Rattle.values.proofs.Laws.{line-length as values-length, line-other as values-other}
+use Rattle.packets.specs.declared.Setting.{Setting}
+use Rattle.packets.specs.declared.Precinct.{Precinct}
+use Rattle.packets.specs.Passes.{line, marks, codingOf, placeOf, Counting, counted, countTurn, packetCounts, valuesOf, valued, valueTurn, packetValues}
+use Rattle.packets.specs.Packets.{past, datAt, headChecks, countChecks, dataChecks, valuesBy, afterCounts, countsBy, packet}
+use Rattle.packets.specs.Ready.{Slotted}
+use Rattle.packets.specs.Steps.{countsOf}
+use Rattle.packets.proofs.Lines.{lies}
+use Rattle.packets.proofs.Stretches.{head-inside}
+
+-- ---- where a packet ends
+
+clash : {A : Type 0} {k : Check} → Refused k ≡ Fine → A
+clash e = let z : _≡_ {A = ℕ} 0 1 = cc in absurd (omega arith)
+
+module _ (s : List ℕ) (c : Setting) (p : Precinct) (slot at : ℕ) where
+  -- not before its header
+  pub packet-onward : at ≤ past s c p slot at
+  packet-onward = omega arith
+
+  values-fine : (v : Verdict) (cells : List ℤ) → valuesBy s c p slot at v cells .0 ≡ Fine → v ≡ Fine
+  values-fine Fine cells e = refl
+  values-fine (Refused k) cells e = clash e
+
+  after-fine : (x : Counted × List ℤ) → datAt s c p slot at ≤ p .end → afterCounts s c p slot at x .0 ≡ Fine → past s c p slot at ≤ p .end
+  after-fine (Done next need, cells) h e =
+      let t = held (dataChecks s c p slot at (Done next need)) (values-fine _ cells e) in
+      omega (arith, t .0 .least, t .1 .1 .0 .least)
+  after-fine (Cut, cells) h e =
+      let t = held (countChecks s c p slot at Cut) (values-fine _ cells e) in
+      absurd (omega (arith, t .0 .least))
+  after-fine (High, cells) h e =
+      let t = held (countChecks s c p slot at High) (values-fine _ cells e) in
+      absurd (omega (arith, t .0 .most))
+
+  counts-fine : (v : Verdict) (cells : List ℤ) → (v ≡ Fine → datAt s c p slot at ≤ p .end) → countsBy s c p slot at v cells .0 ≡ Fine → past s c p slot at ≤ p .end
+  counts-fine Fine cells h e = after-fine (countsOf s c p slot at cells) (h refl) e
+  counts-fine (Refused k) cells h e = clash e
+
+  -- nor, where nothing is refused, past its precinct
+  pub packet-inside : (raws : List ℕ) (cells : List ℤ) → at ≤ p .end → packet s c p slot at raws cells .0 ≡ Fine → past s c p slot at ≤ p .end
+  unfolding packet
+  packet-inside raws cells h e = counts-fine (first (headChecks s c p slot at raws)) cells (head-inside s c p slot at raws h) e
+
+-- ---- what each line keeps, the packet keeps
+
+module _ (c : Setting) (p : Precinct) (slot : ℕ) (P : List ℤ → Type 0)
+    (counts : (j : ℕ) → j < candidates (c .shape) slot → line c p slot j .present ≡ true
+    → (cnt sig : List ℕ) (k : Coding) (i z : ℕ) (cells : List ℤ) → P cells → P (lineCounts cnt sig k (placeOf (line c p slot j)) i z cells .1))
+    (values : (j : ℕ) → j < candidates (c .shape) slot → line c p slot j .present ≡ true
+    → (dat sgn : List ℕ) (from : Next) (cells : List ℤ) → P cells → P (lineValues dat sgn (valuesOf c) (valued c p (line c p slot j)) from cells .1)) where
+  counted-keeps : (need : ℕ) (x : Counted × List ℤ) → P (x .1) → Kept (λ (x : Counting). P (x .2)) (λ (x : Counted × List ℤ). P (x .1)) (counted need x)
+  counted-keeps need (Done next more, cells) h = h
+  counted-keeps need (Cut, cells) h = h
+  counted-keeps need (High, cells) h = h
+
+  counts-keep : (s cnt sig : List ℕ) (raw : Bool) (cells : List ℤ) → P cells → P (packetCounts s c p slot cnt sig raw cells .1)
+  unfolding packetCounts countTurn
+  counts-keep s cnt sig raw cells h =
+      run-keeps (λ (x : Counting). P (x .2)) (λ (x : Counted × List ℤ). P (x .1)) (countTurn s c p slot cnt sig raw) _ (candidates (c .shape) slot)
+      (λ x k. k) (λ j x l k. pick j x l k (line c p slot j .present) refl) (candidates (c .shape) slot) 0 (0, 0, cells) (omega arith) h
+    where
+      pick : (j : ℕ) (x : Counting) → j < candidates (c .shape) slot → P (x .2) → (b : Bool) → line c p slot j .present ≡ b
+          → Kept (λ (x : Counting). P (x .2)) (λ (x : Counted × List ℤ). P (x .1))
+          (cond b (counted (x .1) (lineCounts cnt sig (codingOf s c p raw (line c p slot j .band)) (placeOf (line c p slot j)) (x .0) (marks s c p slot raw j) (x .2))) (go x))
+      pick j x l k true e =
+          let code = codingOf s c p raw (line c p slot j .band) in
+          counted-keeps (x .1) (lineCounts cnt sig code (placeOf (line c p slot j)) (x .0) (marks s c p slot raw j) (x .2)) (counts j l e cnt sig code (x .0) (marks s c p slot raw j) (x .2) k)
+      pick j x l k false e = k
+
+  values-keep : (dat sgn : List ℕ) (cells : List ℤ) → P cells → P (packetValues c p slot dat sgn cells .1)
+  unfolding packetValues valueTurn
+  values-keep dat sgn cells h =
+      run-keeps (λ (x : Next × List ℤ). P (x .1)) (λ (x : Next × List ℤ). P (x .1)) (valueTurn c p slot dat sgn) _ (candidates (c .shape) slot)
+      (λ x k. k) (λ j x l k. pick j x l k (line c p slot j .present) refl) (candidates (c .shape) slot) 0 (record { at = 0; sign = 0 }, cells) (omega arith) h
+    where
+      pick : (j : ℕ) (x : Next × List ℤ) → j < candidates (c .shape) slot → P (x .1) → (b : Bool) → line c p slot j .present ≡ b
+          → P (cond b (lineValues dat sgn (valuesOf c) (valued c p (line c p slot j)) (x .0) (x .1)) x .1)
+      pick j x l k true e = values j l e dat sgn (x .0) (x .1) k
+      pick j x l k false e = k
+
+  module _ (s : List ℕ) (at : ℕ) where
+    by-values : (v : Verdict) (cells : List ℤ) → P cells → P (valuesBy s c p slot at v cells .1)
+    by-values Fine cells h = values-keep _ _ cells h
+    by-values (Refused k) cells h = h
+
+    by-counts : (v : Verdict) (cells : List ℤ) → P cells → P (countsBy s c p slot at v cells .1)
+    by-counts Fine cells h =
+        let x = countsOf s c p slot at cells in
+        by-values (first (countChecks s c p slot at (x .0) ++ dataChecks s c p slot at (x .0))) (x .1) (counts-keep s _ _ _ cells h)
+    by-counts (Refused k) cells h = h
+
+    pub packet-keeps : (raws : List ℕ) (cells : List ℤ) → P cells → P (packet s c p slot at raws cells .1)
+    unfolding packet
+    packet-keeps raws cells h = by-counts (first (headChecks s c p slot at raws)) cells h
+
+-- ---- the cells
+
+-- cell n is no coefficient's and no count's of a line
+pub record Apart (l : Line) (n : ℕ) : Type 0 where
+  pub coefficient : (x : ℕ) → x < l .width → n ≡ l .cell + x * l .stride → ⊥
+  pub count : (x : ℕ) → x < l .width → n ≡ l .cell + x * l .stride + l .area → ⊥
+
+module _ (s : List ℕ) (c : Setting) (p : Precinct) (slot at : ℕ) (raws : List ℕ) (cells : List ℤ) where
+  pub packet-length : length (packet s c p slot at raws cells .1) ≡ length cells
+  packet-length =
+      packet-keeps c p slot (λ l. length l ≡ length cells)
+      (λ j h e cnt sig k i z l q. counts-length cnt sig k (placeOf (line c p slot j)) i z l ∙ q)
+      (λ j h e dat sgn from l q. values-length dat sgn (valuesOf c) (valued c p (line c p slot j)) from l refl ∙ q)
+      s at raws cells refl
+
+  -- a packet changes the cells of its own lines alone
+  pub packet-other : (n : ℕ) → ((j : ℕ) → j < candidates (c .shape) slot → line c p slot j .present ≡ true → Apart (line c p slot j) n)
+      → cell (packet s c p slot at raws cells .1) n ≡ cell cells n
+  packet-other n apart =
+      packet-keeps c p slot (λ l. cell l n ≡ cell cells n)
+      (λ j h e cnt sig k i z l q. counts-other cnt sig k (placeOf (line c p slot j)) i z l n (λ g f. apart j h e .count (4 * g) (omega arith)) ∙ q)
+      (λ j h e dat sgn from l q. values-other dat sgn (valuesOf c) (valued c p (line c p slot j)) from l refl n (apart j h e .coefficient) ∙ q)
+      s at raws cells refl
+
+  -- and none behind those of the components
+  pub packet-behind : Slotted c p slot → (n : ℕ) → start (c .shape) (c .shape .nc) ≤ n → cell (packet s c p slot at raws cells .1) n ≡ cell cells n
+  packet-behind h n k =
+      packet-other n (λ j f e. record {
+        coefficient = λ x l q. omega (arith, lies c p slot j h f e .inside x l);
+        count = λ x l q. omega (arith, lies c p slot j h f e .inside x l);
+      })
