@@ -15,6 +15,7 @@ use Rattle.rows.specs.declared.Field.the-variants.{Slh, Lslh, Ysl}
 use Rattle.bits.specs.Fields.{fieldAt}
 use Rattle.picture.specs.Markers.{SLH, SLI}
 use Rattle.picture.specs.Segment.{segmentAt, lengthChecks}
+use Rattle.picture.specs.declared.segment.Segment.{Segment}
 use Rattle.layout.specs.Bands.{NL}
 use Rattle.layout.specs.Precincts.{Npx, Np, slice-top}
 use Rattle.packets.specs.declared.Setting.{Setting}
@@ -28,16 +29,19 @@ State = ℕ × List ℕ × List ℤ
 abbrev pub Left : Type 0
 Left = Verdict × State
 
+-- A.4.14: 0xff20, and 0xff21 is not built
+abbrev pub sliceMarker : Segment → List Check
+sliceMarker g =
+    check Cut (g .at) Slh (g .left) 2 ample
+    ∷ check Marker (g .at) Slh (g .marker) SLH SLI
+    ∷ check Lacking (g .at) Slh (g .marker) SLH SLH
+    ∷ []
+
 module _ (s : List ℕ) (c : Setting) (t : ℕ) where
-  -- A.4.14: 0xff20, and 0xff21 is not built; the length is 4, the slice index Ysl is t
+  -- A.4.14: the length is 4, the slice index Ysl is t
   abbrev pub sliceChecks : ℕ → List Check
   sliceChecks at =
-      (check Cut at Slh (length s - at) 2 ample
-      ∷ check Marker at Slh (fieldAt s at 16) SLH SLI
-      ∷ check Lacking at Slh (fieldAt s at 16) SLH SLH
-      ∷ [])
-      ++ (lengthChecks (segmentAt s at) Lslh 4 4
-      ++ (check Value (at + 4) Ysl (fieldAt s (at + 4) 16) t t ∷ []))
+      sliceMarker (segmentAt s at) ++ (lengthChecks (segmentAt s at) Lslh 4 4 ++ (check Value (at + 4) Ysl (fieldAt s (at + 4) 16) t t ∷ []))
 
   -- precinct n of the slice
   abbrev pub rowOf : ℕ → ℕ

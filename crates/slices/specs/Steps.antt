@@ -29,7 +29,7 @@ pub record Lent (s : List ℕ) (c : Setting) (at cells : ℕ) : Type 0 where
   pub room : start (c .shape) (c .shape .nc) ≤ cells
 
 -- a precinct of the picture, with its header's fields. Only the top row of a slice can be the picture's first
-pub record Placed (s : List ℕ) (c : Setting) (p : Precinct) (top : Bool) : Type 0 where
+pub record Placed (c : Setting) (p : Precinct) (top : Bool) : Type 0 where
   pub row : p .row < Npy (c .shape)
   pub column : p .column < Npx (c .shape)
   pub later : top ≡ false → 0 < p .row

@@ -131,3 +131,89 @@ fn all_precincts(s: &[u8], cells: &mut [i64], c: Setting, t: usize, at: usize, t
         tops: most,
     }
 }
+
+fn precincts_by(
+    v: Verdict,
+    s: &[u8],
+    cells: &mut [i64],
+    c: Setting,
+    t: usize,
+    at: usize,
+    tops: [usize; 40],
+) -> Reading
+    requires { ⌜ Lent (now s) c at (length (now cells)) × (t < slices (c .shape)) × (v ≡ Fine → at + 6 ≤ length (now s)) ⌝ }
+    ensures { λ r. ⌜ Read (now (s .entry)) (precinctsBy (now (s .entry)) c t v (at, tops, now (cells .entry))) r (now (cells .exit)) ⌝ }
+{
+    match v {
+        Verdict::Fine => all_precincts(s, cells, c, t, at + 6, tops),
+        Verdict::Refused(_) => Reading {
+            verdict: v,
+            at: at,
+            tops: tops,
+        },
+    }
+}
+
+// Slice t, whose header stands at `at`. `tops` are the bands' largest T of the slices before.
+pub fn slice(s: &[u8], cells: &mut [i64], c: Setting, t: usize, at: usize, tops: [usize; 40]) -> Reading
+    requires { ⌜ Lent (now s) c at (length (now cells)) × (t < slices (c .shape)) ⌝ }
+    ensures { λ r. ⌜ Read (now (s .entry)) (slice (now (s .entry)) c t (at, tops, now (cells .entry))) r (now (cells .exit)) ⌝ }
+{
+    let v = slice_row(s, c, t, at);
+    precincts_by(v, s, cells, c, t, at, tops)
+}
+
+// The end marker, and nothing behind it.
+fn end_row(s: &[u8], at: usize) -> Verdict
+    requires { ⌜ at < 2 ^ 32 ⌝ }
+    ensures { λ r. ⌜ r ≡ first (endChecks (now (s .entry)) at) ⌝ }
+{
+    let there = left(s, at);
+    let marker = bits::u16_at(s, at);
+    let behind = left(s, at + 2);
+    rows::first([
+        Check(Row::Cut, at, Field::Eoc, there, 2, AMPLE),
+        Check(Row::Marker, at, Field::Eoc, marker, Marker::EOC, Marker::EOC),
+        Check(Row::Marker, at + 2, Field::Tail, behind, 0, 0),
+        HOLDS,
+        HOLDS,
+        HOLDS,
+        HOLDS,
+        HOLDS,
+    ])
+}
+
+// All slices from the first, whose header stands at `at`, and the end of the stream.
+pub fn stream(s: &[u8], cells: &mut [i64], c: Setting, at: usize, tops: [usize; 40]) -> Reading
+    requires { ⌜ Lent (now s) c at (length (now cells)) ⌝ }
+    ensures { λ r. ⌜ stream (now (s .entry)) c (at, tops, now (cells .entry)) ≡ (r .verdict, (r .at, r .tops, now (cells .exit))) ⌝ }
+{
+    let shape = c.shape;
+    let count = slice_count(shape);
+    let mut place = at;
+    let mut most = tops;
+    let mut t = 0;
+    while t < count {
+        let r = slice(s, cells, c, t, place, most);
+        let v = r.verdict;
+        place = r.at;
+        let raised = r.tops;
+        most = raised;
+        match v {
+            Verdict::Fine => {}
+            Verdict::Refused(_) => {
+                return Reading {
+                    verdict: v,
+                    at: place,
+                    tops: most,
+                };
+            }
+        }
+        t += 1;
+    }
+    Reading {
+        verdict: end_row(s, place),
+        at: place + 2,
+        tops: most,
+    }
+}

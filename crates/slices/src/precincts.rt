@@ -197,7 +197,7 @@ fn packets_by(v: Verdict, s: &[u8], cells: &mut [i64], c: Setting, p: Precinct) 
 
 // A precinct, `top` where it stands in the top row of its slice.
 pub fn precinct(s: &[u8], cells: &mut [i64], c: Setting, p: Precinct, top: bool) -> Verdict
-    requires { ⌜ Lent (now s) c (p .at) (length (now cells)) × Placed (now s) c p top × IsPrecinct (now s) c (p .row) (p .column) (p .at) p ⌝ }
+    requires { ⌜ Lent (now s) c (p .at) (length (now cells)) × Placed c p top × IsPrecinct (now s) c (p .row) (p .column) (p .at) p ⌝ }
     ensures { λ r. ⌜ precinct (now (s .entry)) c (p .row) (p .column) (p .at) top (now (cells .entry)) ≡ (r, now (cells .exit)) ⌝ }
 {
     let v = header_row(s, c, p, top);

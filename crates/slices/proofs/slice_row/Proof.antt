@@ -1,66 +1,45 @@
+use Prim.Native.Nat.{_+_}
+use mathlib.Core.Path.{_≡_, _∙_}
+use mathlib.Core.List.{[], _∷_, _++_}
+use native.Mathlib.Omega.{arith}
+use denote.Ref.{now}
+use Rattle.rows.specs.Rows.{check, ample, first}
+use Rattle.rows.specs.declared.Row.the-variants.{Cut, Marker, Value, Lacking}
+use Rattle.rows.specs.declared.Field.the-variants.{Slh, Lslh, Ysl}
+use Rattle.rows.proofs.Tables.{joined}
+use Rattle.bits.specs.Fields.{fieldAt}
+use Rattle.picture.specs.Markers.{SLH, SLI}
+use Rattle.picture.specs.Segment.{segmentAt, lengthChecks}
+use Rattle.picture.proofs.Laws.{at-place}
+use Rattle.slices.specs.Slice.{sliceMarker}
 use borrow.Author.Needs.{needs}
 use Rattle.slices.proofs.slice_row.Statement.{statement}
 use Rattle.slices.proofs.slice_row.Tie as tie
-use Rattle.slices.proofs.slice_row.Reads as reads
-use Rattle.slices.proofs.slice_row.Lts as lts
-use Rattle.bits.proofs.u16_at.Reads as u16-at-reads
-use Rattle.picture.proofs.segment.Segment.read.Reads as read-reads
-use Rattle.picture.proofs.segment.length_row.Reads as length-row-reads
-use Rattle.rows.proofs.first.Reads as first-reads
-use Rattle.rows.proofs.one.Reads as one-reads
-use Rattle.rows.proofs.then.Reads as then-reads
 
--- src/lib.rt:44:9
-read-requires : tie.Need-read-requires
-read-requires c κs = search needs
-
--- src/lib.rt:45:9
-first-requires : tie.Need-first-requires
-first-requires c κs = search needs
-
--- src/lib.rt:55:9
 length-row-requires : tie.Need-length-row-requires
-length-row-requires c κs = search needs
+length-row-requires c κs = omega (arith, at-place (c .before .read .ensures), c .before .before .before .pre)
 
--- src/lib.rt:56:33
-add-u16-at : tie.Need-add-u16-at
-add-u16-at c = search needs
-
--- src/lib.rt:56:9
-u16-at-requires : tie.Need-u16-at-requires
-u16-at-requires c κs = search needs
-
--- src/lib.rt:57:43
-add-t35 : tie.Need-add-t35
-add-t35 c = search needs
-
--- src/lib.rt:57:9
-one-requires : tie.Need-one-requires
-one-requires c κs = search needs
-
--- src/lib.rt:58:24
-then-requires : tie.Need-then-requires
-then-requires c κs = search needs
-
--- src/lib.rt:58:5
-then-requires-2 : tie.Need-then-requires-2
-then-requires-2 c κs = search needs
-
--- src/lib.rt:40:1
 returns : tie.Need-returns
-returns c = search needs
+returns c =
+    let a = c .before .before .before .before .before .before .before .before .args in
+    let g = c .before .before .before .before .before .before .read .ensures .value in
+    let ysl = c .before .before .one .ensures ∙ (λ i. first (check Value (a .at + 4) Ysl (c .before .before .before .u16-at .ensures .value i) (a .t) (a .t) ∷ [])) in
+    joined (sliceMarker (segmentAt (now (a .s)) (a .at))) (lengthChecks (segmentAt (now (a .s)) (a .at)) Lslh 4 4 ++ (check Value (a .at + 4) Ysl (fieldAt (now (a .s)) (a .at + 4) 16) (a .t) (a .t) ∷ []))
+    (c .then2 .ensures)
+    (c .before .before .before .before .before .first .ensures ∙ (λ i. first (sliceMarker (g i))))
+    (joined (lengthChecks (segmentAt (now (a .s)) (a .at)) Lslh 4 4) (check Value (a .at + 4) Ysl (fieldAt (now (a .s)) (a .at + 4) 16) (a .t) (a .t) ∷ []) (c .before .then .ensures) (c .before .before .before .before .length-row .ensures ∙ (λ i. first (lengthChecks (g i) Lslh 4 4))) ysl)
 
 pub slice-row-spec : {M : Type 1} → statement M
 slice-row-spec =
     tie.close
     (tie.spec
-    read-requires
-    first-requires
+    (λ c κs. search needs)
+    (λ c κs. search needs)
     length-row-requires
-    add-u16-at
-    u16-at-requires
-    add-t35
-    one-requires
-    then-requires
-    then-requires-2
+    (λ c. search needs)
+    (λ c κs. search needs)
+    (λ c. search needs)
+    (λ c κs. search needs)
+    (λ c κs. search needs)
+    (λ c κs. search needs)
     returns)

@@ -8,7 +8,7 @@ use Rattle.rows.specs.declared.Row.the-variants.{Cut, Value, Length}
 use Rattle.rows.specs.declared.Field.the-variants.{Lprc, Q, R}
 use Rattle.layout.specs.Headers.{header-bytes}
 use Rattle.slices.specs.Precinct.{lprc}
-use Rattle.slices.proofs.Laws.{ends-at}
+use Rattle.slices.proofs.PrecinctLaws.{ends-at}
 use borrow.Author.Needs.{needs}
 use Rattle.slices.proofs.precincts.field_row.Statement.{statement}
 use Rattle.slices.proofs.precincts.field_row.Tie as tie

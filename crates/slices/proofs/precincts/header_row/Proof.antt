@@ -1,27 +1,17 @@
+use denote.Ref.{now}
+use Rattle.rows.specs.Rows.{each}
+use Rattle.rows.proofs.Tables.{joined}
+use Rattle.layout.specs.Bands.{NL}
+use Rattle.slices.specs.Precinct.{fieldChecks, modeChecks}
 use borrow.Author.Needs.{needs}
 use Rattle.slices.proofs.precincts.header_row.Statement.{statement}
 use Rattle.slices.proofs.precincts.header_row.Tie as tie
-use Rattle.slices.proofs.precincts.header_row.Reads as reads
-use Rattle.slices.proofs.precincts.header_row.Lts as lts
-use Rattle.rows.proofs.then.Reads as then-reads
-use Rattle.slices.proofs.precincts.field_row.Reads as field-row-reads
-use Rattle.slices.proofs.precincts.mode_rows.Reads as mode-rows-reads
 
--- src/precincts.rt:118:9
-field-row-requires : tie.Need-field-row-requires
-field-row-requires c κs = search needs
-
--- src/precincts.rt:119:24
-mode-rows-requires : tie.Need-mode-rows-requires
-mode-rows-requires c κs = search needs
-
--- src/precincts.rt:119:5
-then-requires : tie.Need-then-requires
-then-requires c κs = search needs
-
--- src/precincts.rt:114:1
 returns : tie.Need-returns
-returns c = search needs
+returns c =
+    let a = c .before .before .before .before .args in
+    joined (fieldChecks (now (a .s)) (a .c) (a .p .row) (a .p .column) (a .p .at)) (each (NL (a .c .shape)) (modeChecks (now (a .s)) (a .c) (a .p .row) (a .p .column) (a .p .at) (a .top)))
+    (c .then .ensures) (c .before .before .field-row .ensures) (c .before .mode-rows .ensures)
 
 pub header-row-spec : {M : Type 1} → statement M
-header-row-spec = tie.close (tie.spec field-row-requires mode-rows-requires then-requires returns)
+header-row-spec = tie.close (tie.spec (λ c κs. search needs) (λ c κs. search needs) (λ c κs. search needs) returns)

@@ -11,7 +11,7 @@ use lib.Dec.{lit≤}
 use Rattle.layout.specs.Bands.{NL, band-exists}
 use Rattle.layout.specs.Headers.{modes}
 use Rattle.slices.specs.Precinct.{modeChecks}
-use Rattle.slices.proofs.Laws.{topCheck, topChecks, top-modes, free-modes, two-if, on, off}
+use Rattle.slices.proofs.PrecinctLaws.{topCheck, topChecks, top-modes, free-modes, two-if, on, off}
 use borrow.Author.Needs.{needs}
 use Rattle.slices.proofs.precincts.mode_rows.Statement.{statement}
 use Rattle.slices.proofs.precincts.mode_rows.Tie as tie

@@ -2,7 +2,8 @@ use mathlib.Core.Path.{_≡_, sym, _∙_}
 use native.Mathlib.Omega.{arith}
 use denote.Ref.{now}
 use Rattle.layout.proofs.Slots.{slots-most}
-use Rattle.slices.proofs.Laws.{packet-there, packet-absent, packet-inside}
+use Rattle.packets.proofs.Laws.{packet-inside}
+use Rattle.slices.proofs.PrecinctLaws.{packet-there, packet-absent}
 use borrow.Author.Needs.{needs}
 use Rattle.slices.proofs.precincts.packet_turn.Statement.{statement}
 use Rattle.slices.proofs.precincts.packet_turn.Tie as tie
@@ -29,7 +30,7 @@ returns c =
     let o = c .before .packet .ensures in
     record {
       turn = packet-there (now (a .s)) (a .c) (a .p .row) (a .p .column) (a .p .at) (a .slot) (a .at) (a .raws) (now (a .cells)) (h .4) (sym (c .before .before .before .before .any-line .ensures) ∙ c .before .before .before .if1 .taken) (o .left) (o .dr) (o .past);
-      inside = λ e. omega (arith, o .past, packet-inside (now (a .s)) (a .c) (a .p) (a .slot) (a .at) (h .2) (a .raws) (now (a .cells)) _ (o .left ∙ (λ i. (e i, _))));
+      inside = λ e. omega (arith, o .past, packet-inside (now (a .s)) (a .c) (a .p) (a .slot) (a .at) (a .raws) (now (a .cells)) (h .2) ((λ i. o .left i .0) ∙ e));
     }
 
 returns-2 : tie.Need-returns-2

@@ -1,31 +1,24 @@
+use mathlib.Core.Path.{_≡_, refl, sym, _∙_}
+use native.Mathlib.Omega.{arith}
+use Rattle.slices.proofs.PrecinctLaws.{raised-there, raised-not}
 use borrow.Author.Needs.{needs}
 use Rattle.slices.proofs.tops.raised_at.Statement.{statement}
 use Rattle.slices.proofs.tops.raised_at.Tie as tie
-use Rattle.slices.proofs.tops.raised_at.Reads as reads
-use Rattle.slices.proofs.tops.raised_at.Lts as lts
-use Rattle.slices.proofs.stub.has_lines.Reads as has-lines-reads
-use Rattle.slices.proofs.stub.truncation_of.Reads as truncation-of-reads
 
--- src/tops.rt:21:8
-has-lines-requires : tie.Need-has-lines-requires
-has-lines-requires c κs = search needs
-
--- src/tops.rt:22:13
-truncation-of-requires : tie.Need-truncation-of-requires
-truncation-of-requires c κs = search needs
-
--- src/tops.rt:24:13
 returns : tie.Need-returns
-returns c = search needs
+returns c =
+    let a = c .before .before .before .before .before .args in
+    raised-there (a .c) (a .p) (a .b) (a .top) (sym (c .before .before .before .has-lines .ensures) ∙ c .before .before .if1 .taken) (c .before .truncation-of .ensures .value) (omega (arith, c .if2 .taken))
 
--- src/tops.rt:16:1
 returns-2 : tie.Need-returns-2
-returns-2 c = search needs
+returns-2 c =
+    let a = c .before .before .before .before .before .args in
+    raised-there (a .c) (a .p) (a .b) (a .top) (sym (c .before .before .before .has-lines .ensures) ∙ c .before .before .if1 .taken) (c .before .truncation-of .ensures .value) (omega (arith, c .if2 .left))
 
--- src/tops.rt:16:1
 returns-3 : tie.Need-returns-3
-returns-3 c = search needs
+returns-3 c =
+    let a = c .before .before .before .args in
+    raised-not (a .c) (a .p) (a .b) (a .top) (sym (c .before .has-lines .ensures) ∙ c .if1 .left)
 
 pub raised-at-spec : {M : Type 1} → statement M
-raised-at-spec =
-    tie.close (tie.spec has-lines-requires truncation-of-requires returns returns-2 returns-3)
+raised-at-spec = tie.close (tie.spec (λ c κs. search needs) (λ c κs. search needs) returns returns-2 returns-3)
