@@ -27,8 +27,9 @@ use Rattle.packets.specs.declared.Precinct.{Precinct}
 use Rattle.packets.specs.Precincts.{D, T}
 use Rattle.packets.specs.Ready.{Standing}
 use Rattle.packets.specs.Packets.{anyLine, head, past, packet}
+use Rattle.slices.specs.declared.precincts.Flags.{Flags}
 use Rattle.slices.specs.Precinct.{precinctAt, lprc, fieldChecks, modeChecks, headerChecks, packed, packetTurn, restChecks, packetsBy, precinct, holds, raisedBy, raised}
-use Rattle.slices.specs.Steps.{Lent, Placed, IsPrecinct, onward}
+use Rattle.slices.specs.Steps.{Lent, Placed, IsPrecinct, onward, Passed}
 
 -- ---- tables whose checks all hold
 
@@ -114,6 +115,17 @@ module _ (s : List ℕ) (c : Setting) (row column place slot at : ℕ) (raws : L
   unfolding packetTurn
   packet-absent none = rw ((λ i. anyLine c (sym (e .is) i) slot (candidates (c .shape) slot)) ∙ none)
 
+
+-- a slot that refuses stops the packets, and one that does not goes on
+module _ {s : List ℕ} {c : Setting} {p : Precinct} {slot at : ℕ} {raws : List ℕ} {cells cells′ : List ℤ} {f : Flags} (x : Passed s c p slot at raws cells f cells′) where
+  pub passed-stops : {k : Check} → f .verdict ≡ Refused k → packetTurn s c (p .row) (p .column) (p .at) slot (at, raws, cells) ≡ stop (Refused k, cells′)
+  passed-stops v = x .turn ∙ (λ i. onward (v i) (f .at) (f .raws) cells′)
+
+  pub passed-goes : f .verdict ≡ Fine → packetTurn s c (p .row) (p .column) (p .at) slot (at, raws, cells) ≡ go (f .at, f .raws, cells′)
+  passed-goes v = x .turn ∙ (λ i. onward (v i) (f .at) (f .raws) cells′)
+
+pub settled : {A : Type 0} {left : Verdict × A} {v w : Verdict} {rest : A} → left ≡ (w, rest) → v ≡ w → _≡_ {A = Verdict × A} left (v, rest)
+settled {rest = rest} e f = e ∙ (λ i. (sym f i, rest))
 
 -- bytes left, counted from the precinct's own end
 pub rest-is : {s : List ℕ} {c : Setting} {row column at : ℕ} {p : Precinct} (place : ℕ) → IsPrecinct s c row column at p

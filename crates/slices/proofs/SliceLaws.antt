@@ -30,10 +30,10 @@ use Rattle.packets.specs.declared.Precinct.{Precinct}
 use Rattle.packets.specs.Ready.{Settled}
 use Rattle.slices.specs.declared.Reading.{Reading}
 use Rattle.slices.specs.Precinct.{precinctAt, precinct, raised}
-use Rattle.slices.specs.Slice.{State, Left, sliceMarker, sliceChecks, rowOf, columnOf, isTop, placed, precinctTurn}
-use Rattle.slices.specs.Stream.{sliced}
-use Rattle.slices.specs.Steps.{Lent, Placed, IsPrecinct, behind, further, Turned}
-use Rattle.slices.proofs.PrecinctLaws.{clash, row-is, column-is, precinct-inside}
+use Rattle.slices.specs.Slice.{State, Left, sliceMarker, sliceChecks, rowOf, columnOf, isTop, placed, precinctTurn, slice}
+use Rattle.slices.specs.Stream.{sliced, sliceTurn}
+use Rattle.slices.specs.Steps.{Placed, IsPrecinct, behind, further, Turned, Read}
+use Rattle.slices.proofs.PrecinctLaws.{clash, settled, row-is, column-is, ends-at, precinct-inside}
 
 -- ---- where a precinct of a slice stands
 
@@ -90,7 +90,7 @@ module _ (s : List ℕ) (c : Setting) (t n at : ℕ) (tops : List ℕ) (cells : 
           (λ i. placed s c t n (at, tops, cells) (f i))
           ∙ placed-is v cells′
           ∙ (λ i. further (behind v c (sym (x .is) i) at tops .verdict) (behind v c (sym (x .is) i) at tops .at, behind v c (sym (x .is) i) at tops .tops, cells′));
-        inside = ends-in v (λ z. omega (arith, (λ i. x .is i .end), precinct-inside s c (rowOf s c t n) (columnOf s c t n) at (isTop s c t n) cells ((λ i. f i .0) ∙ z)));
+        inside = ends-in v (λ z. omega (arith, ends-at x, precinct-inside s c (rowOf s c t n) (columnOf s c t n) at (isTop s c t n) cells ((λ i. f i .0) ∙ z)));
       })
 
 -- where a reading stands behind a precinct
@@ -110,6 +110,24 @@ header-ends s c t at e =
     let h = held l (append-fine l y (append-fine (sliceMarker (segmentAt s at)) (l ++ y) e .1) .0) in
     omega (arith, h .1 .0 .least, h .1 .1 .0 .least)
 
-pub sliced-is : (v : Verdict) (x : State) → sliced (v, x) ≡ further v x
+-- ---- a reading that goes on, and one that stops
+
+module _ {s : List ℕ} {turn : Turn State Left} {r : Reading} {cells′ : List ℤ} (x : Turned s turn r cells′) where
+  pub turned-goes : r .verdict ≡ Fine → turn ≡ go (r .at, r .tops, cells′)
+  turned-goes v = x .is ∙ (λ i. further (v i) (r .at, r .tops, cells′))
+
+  pub turned-stops : {k : Check} → r .verdict ≡ Refused k → turn ≡ stop (Refused k, (r .at, r .tops, cells′))
+  turned-stops v = x .is ∙ (λ i. further (v i) (r .at, r .tops, cells′))
+
+pub read-still : {s : List ℕ} {left left′ : Left} {r : Reading} {cells′ : List ℤ} → left′ ≡ left → Read s left r cells′ → Read s left′ r cells′
+read-still e x = record { is = e ∙ x .is; inside = x .inside }
+
+-- ---- the turn of a slice
+
+sliced-is : (v : Verdict) (x : State) → sliced (v, x) ≡ further v x
 sliced-is Fine x = refl
 sliced-is (Refused k) x = refl
+
+pub slice-turned : (s : List ℕ) (c : Setting) (t : ℕ) (x : State) {r : Reading} {cells′ : List ℤ} → Read s (slice s c t x) r cells′ → Turned s (sliceTurn s c t x) r cells′
+unfolding sliceTurn
+slice-turned s c t x {r} {cells′} y = record { is = (λ i. sliced (y .is i)) ∙ sliced-is (r .verdict) (r .at, r .tops, cells′); inside = y .inside }

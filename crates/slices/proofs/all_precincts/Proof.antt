@@ -8,8 +8,8 @@ use Rattle.loops.proofs.Laws.{Going, begins, goes-on, stops, ends}
 use Rattle.layout.specs.Precincts.{Np}
 use Rattle.slices.specs.Slice.{precinctTurn, precincts}
 use Rattle.layout.proofs.Columns.{slices-most}
-use Rattle.slices.specs.Steps.{further}
-use Rattle.slices.proofs.PrecinctLaws.{clash}
+use Rattle.slices.proofs.PrecinctLaws.{clash, settled}
+use Rattle.slices.proofs.SliceLaws.{turned-goes, turned-stops}
 use borrow.Author.Needs.{needs}
 use Rattle.slices.proofs.all_precincts.Statement.{statement}
 use Rattle.slices.proofs.all_precincts.Tie as tie
@@ -44,12 +44,9 @@ returns : tie.Need-returns Inv-loop μ-loop
 unfolding precincts
 returns c =
     let l = c .before .before .before .before .before .before .before .loop in
-    let r = c .before .before .before .before .precinct-turn in
     let v = c .enum-told2 .given .1 in
     record {
-      is =
-        stops (l .inv .0) (omega (arith, c .before .before .before .before .before .before .loop-test .taken, c .before .before .before .before .before .before .before .before .precincts-in-slice .ensures)) (r .ensures .is ∙ (λ i. further (v i) (r .result .at, r .result .tops, _)))
-        ∙ (λ i. (sym v i, (r .result .at, r .result .tops, _)));
+      is = settled (stops (l .inv .0) (omega (arith, c .before .before .before .before .before .before .loop-test .taken, c .before .before .before .before .before .before .before .before .precincts-in-slice .ensures)) (turned-stops (c .before .before .before .before .precinct-turn .ensures) v)) v;
       inside = λ e. clash (sym v ∙ e);
     }
 
@@ -59,7 +56,7 @@ loop-again c =
     let r = c .before .before .before .before .precinct-turn in
     let v = c .enum-told .given .1 in
     (
-      goes-on (l .inv .0) (omega (arith, c .before .before .before .before .before .before .loop-test .taken, c .before .before .before .before .before .before .before .before .precincts-in-slice .ensures)) (r .ensures .is ∙ (λ i. further (v i) (r .result .at, r .result .tops, _))),
+      goes-on (l .inv .0) (omega (arith, c .before .before .before .before .before .before .loop-test .taken, c .before .before .before .before .before .before .before .before .precincts-in-slice .ensures)) (turned-goes (r .ensures) v),
       r .ensures .inside v,
       r .kept .1 .0 ∙ l .inv .2,
     )

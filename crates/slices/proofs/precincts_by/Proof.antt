@@ -1,46 +1,40 @@
+use mathlib.Core.Path.{_≡_, refl, sym, _∙_}
+use native.Mathlib.Omega.{arith}
+use denote.Ref.{now}
+use Rattle.slices.specs.Slice.{precinctsBy}
+use Rattle.slices.proofs.PrecinctLaws.{clash, settled}
+use Rattle.slices.proofs.SliceLaws.{read-still}
 use borrow.Author.Needs.{needs}
 use Rattle.slices.proofs.precincts_by.Statement.{statement}
 use Rattle.slices.proofs.precincts_by.Tie as tie
-use Rattle.slices.proofs.precincts_by.Reads as reads
-use Rattle.slices.proofs.precincts_by.Lts as lts
-use Rattle.slices.proofs.all_precincts.Reads as all-precincts-reads
 
--- src/lib.rt:148:43
-enum-told : tie.Need-enum-told
-enum-told c = search needs
-
--- src/lib.rt:148:56
-add-all-precincts : tie.Need-add-all-precincts
-add-all-precincts c = search needs
-
--- src/lib.rt:148:26
 all-precincts-requires : tie.Need-all-precincts-requires
-all-precincts-requires c κs = search needs
+all-precincts-requires c κs =
+    let h = c .before .before .before .before .pre in
+    (record { settled = h .0 .settled; short = h .0 .short; inside = h .2 (c .before .enum-told .given .1); room = h .0 .room }, h .1)
 
--- src/lib.rt:149:32
-enum-told-2 : tie.Need-enum-told-2
-enum-told-2 c = search needs
-
--- src/lib.rt:135:1
-same-length : tie.Need-same-length
-same-length c = search needs
-
--- src/lib.rt:135:1
 returns : tie.Need-returns
-returns c = search needs
+returns c =
+    let a = c .before .before .before .before .before .before .args in
+    read-still (λ i. precinctsBy (now (a .s)) (a .c) (a .t) (c .before .before .before .enum-told .given .1 i) (a .at, a .tops, now (a .cells))) (c .before .all-precincts .ensures)
 
--- src/lib.rt:135:1
 returns-2 : tie.Need-returns-2
-returns-2 c = search needs
+returns-2 c =
+    let a = c .before .before .before .args in
+    let v = c .enum-told2 .given .1 in
+    record {
+      is = settled (λ i. precinctsBy (now (a .s)) (a .c) (a .t) (v i) (a .at, a .tops, now (a .cells))) v;
+      inside = λ e. clash (sym v ∙ e);
+    }
 
 pub precincts-by-spec : {M : Type 1} → statement M
 precincts-by-spec =
     tie.close
     (tie.spec
-    enum-told
-    add-all-precincts
+    (λ c. search needs)
+    (λ c. search needs)
     all-precincts-requires
-    enum-told-2
-    same-length
+    (λ c. search needs)
+    (λ c. search needs)
     returns
     returns-2)

@@ -1,72 +1,67 @@
+use Prim.Native.Nat.{_≤_, _-_}
+use mathlib.Core.Path.{_≡_, refl, sym, _∙_}
+use native.Mathlib.Omega.{arith}
+use denote.Ref.{now}
+use lib.ListN.{length}
+use Rattle.loops.proofs.Laws.{Going, begins, goes-on, stops, ends}
+use Rattle.layout.specs.Precincts.{slices}
+use Rattle.slices.specs.Stream.{sliceTurn, ended, stream}
+use Rattle.slices.proofs.PrecinctLaws.{settled}
+use Rattle.slices.proofs.SliceLaws.{turned-goes, turned-stops, slice-turned}
 use borrow.Author.Needs.{needs}
 use Rattle.slices.proofs.stream.Statement.{statement}
 use Rattle.slices.proofs.stream.Tie as tie
-use Rattle.slices.proofs.stream.Reads as reads
-use Rattle.slices.proofs.stream.Lts as lts
-use Rattle.layout.proofs.precincts.slice_count.Reads as slice-count-reads
-use Rattle.slices.proofs.end_row.Reads as end-row-reads
-use Rattle.slices.proofs.slice.Reads as slice-reads
 
 abbrev Inv-loop : tie.InvT-loop
-Inv-loop s cells₀ c at count place₀ most₀ t₀ cells place most t = ?
+Inv-loop s cells₀ c at count place₀ most₀ t₀ cells place most t =
+    Going (sliceTurn s c) (ended s) (slices (c .shape)) (place₀, most₀, cells₀) t (place, most, cells)
+    × (place ≤ length s) × (length cells ≡ length cells₀)
 
 abbrev μ-loop : tie.MeasureT-loop
-μ-loop s cells₀ c at count place₀ most₀ t₀ cells place most t = ?
+μ-loop s cells₀ c at count place₀ most₀ t₀ cells place most t = count - t
 
--- src/lib.rt:192:9
-slice-count-requires : tie.Need-slice-count-requires Inv-loop μ-loop
-slice-count-requires c κs = search needs
-
--- src/lib.rt:196:5
 loop-holds : tie.Need-loop-holds Inv-loop μ-loop
-loop-holds c = search needs
+loop-holds c = (begins, c .before .before .before .pre .inside, refl)
 
--- src/lib.rt:197:13
 slice-requires : tie.Need-slice-requires Inv-loop μ-loop
-slice-requires c κs = search needs
+slice-requires c κs =
+    let h = c .before .before .before .before .before .before .pre in
+    let l = c .before .before .loop in
+    (
+      record { settled = h .settled; short = h .short; inside = l .inv .1; room = omega (arith, h .room, l .inv .2) },
+      omega (arith, c .before .loop-test .taken, c .before .before .before .slice-count .ensures .0),
+    )
 
-enum-told : tie.Need-enum-told Inv-loop μ-loop
-enum-told c = search needs
-
--- src/lib.rt:205:17
-enum-told-2 : tie.Need-enum-told-2 Inv-loop μ-loop
-enum-told-2 c = search needs
-
--- src/lib.rt:205:17
-same-length : tie.Need-same-length Inv-loop μ-loop
-same-length c = search needs
-
--- src/lib.rt:205:17
 returns : tie.Need-returns Inv-loop μ-loop
-returns c = search needs
+unfolding stream
+returns c =
+    let l = c .before .before .before .before .before .before .before .loop in
+    let a = c .before .before .before .before .before .before .before .before .before .before .before .args in
+    let v = c .enum-told2 .given .1 in
+    settled (stops (l .inv .0) (omega (arith, c .before .before .before .before .before .before .loop-test .taken, c .before .before .before .before .before .before .before .before .slice-count .ensures .0)) (turned-stops (slice-turned (now (a .s)) (a .c) (l .t) (l .place, l .most, l .cells) (c .before .before .before .before .slice .ensures)) v)) v
 
--- src/lib.rt:212:9
-add-t : tie.Need-add-t Inv-loop μ-loop
-add-t c = search needs
-
--- src/lib.rt:196:5
-loop-less : tie.Need-loop-less Inv-loop μ-loop
-loop-less c = search needs
-
--- src/lib.rt:196:5
 loop-again : tie.Need-loop-again Inv-loop μ-loop
-loop-again c = search needs
+loop-again c =
+    let l = c .before .before .before .before .before .before .before .loop in
+    let a = c .before .before .before .before .before .before .before .before .before .before .before .args in
+    let r = c .before .before .before .before .slice in
+    let v = c .enum-told .given .1 in
+    (
+      goes-on (l .inv .0) (omega (arith, c .before .before .before .before .before .before .loop-test .taken, c .before .before .before .before .before .before .before .before .slice-count .ensures .0)) (turned-goes (slice-turned (now (a .s)) (a .c) (l .t) (l .place, l .most, l .cells) (r .ensures)) v),
+      r .ensures .inside v,
+      r .kept .1 .0 ∙ l .inv .2,
+    )
 
--- src/lib.rt:215:18
 end-row-requires : tie.Need-end-row-requires Inv-loop μ-loop
-end-row-requires c κs = search needs
+end-row-requires c κs = omega (arith, c .before .loop .inv .1, c .before .before .before .before .before .pre .short)
 
--- src/lib.rt:216:13
 add-t18 : tie.Need-add-t18 Inv-loop μ-loop
-add-t18 c = search needs
+add-t18 c = omega (arith, c .before .before .loop .inv .1, c .before .before .before .before .before .before .pre .short)
 
--- src/lib.rt:187:1
-same-length-2 : tie.Need-same-length-2 Inv-loop μ-loop
-same-length-2 c = search needs
-
--- src/lib.rt:187:1
 returns-2 : tie.Need-returns-2 Inv-loop μ-loop
-returns-2 c = search needs
+unfolding stream
+returns-2 c =
+    settled (ends (c .before .before .loop .inv .0) (omega (arith, c .before .loop-test .left, c .before .before .before .slice-count .ensures .0))) (c .end-row .ensures)
 
 pub stream-spec : {M : Type 1} → statement M
 stream-spec =
@@ -74,17 +69,17 @@ stream-spec =
     (tie.spec
     Inv-loop
     μ-loop
-    slice-count-requires
+    (λ c κs. search needs)
     loop-holds
     slice-requires
-    enum-told
-    enum-told-2
-    same-length
+    (λ c. search needs)
+    (λ c. search needs)
+    (λ c. search needs)
     returns
-    add-t
-    loop-less
+    (λ c. search needs)
+    (λ c. search needs)
     loop-again
     end-row-requires
     add-t18
-    same-length-2
+    (λ c. search needs)
     returns-2)

@@ -8,8 +8,7 @@ use Rattle.loops.proofs.Laws.{Going, begins, goes-on, stops, ends}
 use Rattle.layout.specs.Slots.{slots}
 use Rattle.slices.specs.Precinct.{body, noFlags, packetTurn, restChecks, packets}
 use Rattle.packets.proofs.LinePasses.{standing-still}
-use Rattle.slices.specs.Steps.{onward}
-use Rattle.slices.proofs.PrecinctLaws.{ends-at, rest-is}
+use Rattle.slices.proofs.PrecinctLaws.{ends-at, rest-is, passed-goes, passed-stops, settled}
 use borrow.Author.Needs.{needs}
 use Rattle.slices.proofs.precincts.packets.Statement.{statement}
 use Rattle.slices.proofs.precincts.packets.Tie as tie
@@ -43,10 +42,8 @@ returns : tie.Need-returns Inv-loop μ-loop
 unfolding packets
 returns c =
     let l = c .before .before .before .before .before .before .loop in
-    let f = c .before .before .before .packet-turn in
     let v = c .enum-told2 .given .1 in
-    stops (l .inv .0) (omega (arith, c .before .before .before .before .before .loop-test .taken, c .before .before .before .before .before .before .before .before .before .slot-count .ensures .0)) (f .ensures .turn ∙ (λ i. onward (v i) (f .result .at) (f .result .raws) _))
-    ∙ (λ i. (sym v i, _))
+    settled (stops (l .inv .0) (omega (arith, c .before .before .before .before .before .loop-test .taken, c .before .before .before .before .before .before .before .before .before .slot-count .ensures .0)) (passed-stops (c .before .before .before .packet-turn .ensures) v)) v
 
 loop-again : tie.Need-loop-again Inv-loop μ-loop
 loop-again c =
@@ -54,7 +51,7 @@ loop-again c =
     let f = c .before .before .before .before .packet-turn in
     let v = c .before .enum-told .given .1 in
     (
-      goes-on (l .inv .0) (omega (arith, c .before .before .before .before .before .before .loop-test .taken, c .before .before .before .before .before .before .before .before .before .before .slot-count .ensures .0)) (f .ensures .turn ∙ (λ i. onward (v i) (f .result .at) (f .result .raws) _)),
+      goes-on (l .inv .0) (omega (arith, c .before .before .before .before .before .before .loop-test .taken, c .before .before .before .before .before .before .before .before .before .before .slot-count .ensures .0)) (passed-goes (f .ensures) v),
       f .ensures .inside v,
       f .kept .1 .0 ∙ l .inv .2,
     )
@@ -67,8 +64,7 @@ unfolding packets
 returns-2 c =
     let l = c .before .before .loop in
     let x = c .before .before .before .before .before .before .before .before .pre .2 in
-    ends (l .inv .0) (omega (arith, c .before .loop-test .left, c .before .before .before .before .before .slot-count .ensures .0))
-    ∙ (λ i. (sym (c .rest-row .ensures ∙ rest-is (l .at) x) i, l .cells))
+    settled (ends (l .inv .0) (omega (arith, c .before .loop-test .left, c .before .before .before .before .before .slot-count .ensures .0))) (c .rest-row .ensures ∙ rest-is (l .at) x)
 
 pub packets-spec : {M : Type 1} → statement M
 packets-spec =
