@@ -1,9 +1,9 @@
 -- The cells of a component's coefficients: inside its stretch, no two the same, and none left over; the line above lies `up` cells before.
 -- Assumes nothing.
 use mathlib.Core.Path.{_≡_, refl, sym, subst, ap, _∙_}
-use mathlib.Core.Bool.{Bool, true, false}
-use Prim.Native.Nat.{ℕ, zero, suc, _+_, _*_, _-_, _/_, _%_, _^_, _≤_, _<_, min}
-use native.Mathlib.Nat.{mul-add-div-right, mul-add-mod-self-right, div-eq-of-lt, mod-eq-of-lt, mod-lt, div-lt-iff-lt-mul, div-add-mod', mul-le-mul-right, suc-mul, add-mul, mul-comm, mul-assoc}
+use mathlib.Core.Bool.{true}
+use Prim.Native.Nat.{ℕ, zero, suc, _+_, _*_, _-_, _/_, _%_, _^_, _≤_, _<_}
+use native.Mathlib.Nat.{mul-add-div-right, mul-add-mod-self-right, div-eq-of-lt, mod-eq-of-lt, mod-lt, div-lt-iff-lt-mul, div-add-mod', mul-le-mul-right, suc-mul, add-mul, mul-comm}
 use native.Mathlib.Decide.{decLt}
 use native.Mathlib.Omega.{arith}
 use Rattle.wavelet.specs.Transform.{Kind, LL, HL, LH, HH}
@@ -16,8 +16,8 @@ use Rattle.layout.specs.Cells.{area, inner, cell, start, samples}
 use Rattle.layout.specs.Built.{Built}
 use Rattle.layout.specs.Sizes.{component-of}
 use Rattle.layout.proofs.Shapes.{component-small}
-use Rattle.layout.proofs.Places.{Stands, Same, Found, places-differ, place-found}
-use Rattle.layout.proofs.Existing.{BandOf, band-has, has-band, type-known}
+use Rattle.layout.proofs.Places.{Stands, places-differ, place-found}
+use Rattle.layout.proofs.Existing.{band-has, has-band, type-known}
 
 -- ---- rows of W cells
 

@@ -1,19 +1,16 @@
 -- Columns of precincts: how wide and how many they are. Assumes nothing.
-use mathlib.Core.Path.{_≡_, refl, sym, ap, _∙_}
-use mathlib.Core.Bool.{Bool, true, false, cond}
-use Prim.Native.Nat.{ℕ, zero, suc, _+_, _*_, _-_, _/_, _%_, _^_, _≤_, _<_, min, max}
+use mathlib.Core.Path.{_≡_, sym, ap, _∙_}
+use Prim.Native.Nat.{ℕ, zero, suc, _*_, _-_, _^_, _≤_, _<_, max}
 use native.Mathlib.Nat.{mul-le-mul, max-zero}
 use native.Mathlib.Decide.{decLe, decLt}
 use native.Mathlib.Omega.{arith}
 use borrow.Author.Tests.{lt-ltb, le-ltb}
-use lib.Dec.{ltb}
 use lib.Pow.{pow-pos, pow-mono}
-use Rattle.whole.specs.Numbers.{ceilDiv}
 use Rattle.wavelet.proofs.Halves.{below-size}
 use Rattle.layout.specs.declared.Shape.{Shape}
-use Rattle.layout.specs.Bands.{sx, sy}
+use Rattle.layout.specs.Bands.{sx}
 use Rattle.layout.specs.Precincts.{largest, Cs, Npx, Npy, slices}
-use Rattle.layout.specs.Built.{Built, Sampled}
+use Rattle.layout.specs.Built.{Built}
 use Rattle.layout.proofs.Sizes.{ceil-most, ceil-some}
 
 -- ---- the largest sampling factor

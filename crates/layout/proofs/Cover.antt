@@ -1,16 +1,16 @@
 -- A band's lines over all rows of precincts are its lines, each once, and its columns over all columns of precincts likewise: what a precinct holds by B.5's
 -- rule is the part that the definitions count. Assumes nothing.
 use mathlib.Core.Path.{_≡_, refl, sym, ap, _∙_}
-use mathlib.Core.Bool.{Bool, true, false, cond}
-use Prim.Native.Nat.{ℕ, zero, suc, _+_, _*_, _-_, _/_, _%_, _^_, _≤_, _<_, min, max}
-use native.Mathlib.Nat.{mul-assoc, mul-comm, mul-left-comm, mul-div-mul-right, mul-le-mul, mul-le-mul-right, le-of-mul-le-mul-right, lt-of-mul-lt-mul-right, div-eq-of-lt-le, div-mul-le-self, lt-div-mul-add, div-add-mod', mod-lt, suc-mul, add-mul, one-mul, zero-mul, add-mul-div-right, mul-div-cancel, mul-add-mod-self-right, mod-le, div-eq-of-lt, mul-mul-mul-comm}
+use mathlib.Core.Bool.{cond}
+use Prim.Native.Nat.{ℕ, zero, suc, _+_, _*_, _-_, _/_, _%_, _^_, _≤_, _<_}
+use native.Mathlib.Nat.{mul-assoc, mul-comm, mul-left-comm, mul-div-mul-right, mul-le-mul, mul-le-mul-right, le-of-mul-le-mul-right, lt-of-mul-lt-mul-right, div-eq-of-lt-le, div-mul-le-self, lt-div-mul-add, div-add-mod', mod-lt, suc-mul, add-mul, one-mul, zero-mul, add-mul-div-right, mul-add-mod-self-right, mod-le, div-eq-of-lt, mul-mul-mul-comm}
 use native.Mathlib.Decide.{decLe, decLt}
 use native.Mathlib.Omega.{arith}
 use borrow.Author.Tests.{lt-ltb, le-ltb}
 use lib.Dec.{ltb}
 use lib.Pow.{pow-pos, pow-add, pow-mono}
 use Rattle.whole.specs.Numbers.{ceilDiv}
-use Rattle.wavelet.specs.Transform.{Kind, LL, HL, LH, HH, low-size, high-size}
+use Rattle.wavelet.specs.Transform.{low-size, high-size}
 use Rattle.wavelet.specs.Bands.{τx, τy}
 use Rattle.wavelet.proofs.Halves.{low-half, below-size, size-above}
 use Rattle.layout.specs.declared.Shape.{Shape}
@@ -18,7 +18,7 @@ use Rattle.layout.specs.Bands.{sx, sy, Wc, Hc, N′y, Nβ, kind, dx, dep
 use Rattle.layout.specs.Built.{Built}
 use Rattle.layout.specs.Precincts.{largest, Cs, Npx, Npy, Wp, by-letter, Wpb, first-x, first-y, most-lines, lines, slice-rows, slice-top, slices}
 use Rattle.layout.proofs.Shapes.{depth-own, dx-most}
-use Rattle.layout.proofs.Filters.{τx-most, τy-most}
+use Rattle.layout.proofs.Filters.{τx-most}
 use Rattle.layout.proofs.Columns.{largest-of, largest-two, Cs-columns, Cs-whole, Cs-range, column-inside}
 use Rattle.layout.proofs.Existing.{high-deep}
 use Rattle.layout.proofs.Reaches.{columns-letter, Hb-letter, ceil-ceil, scale, rows-low, double}

@@ -1,18 +1,17 @@
 -- The bands of the layout are the bands of the wavelet: an existing filter type of a component is one that the component has, and the other way
 -- round. Assumes nothing.
 use mathlib.Core.Path.{_≡_, refl, sym, ap, _∙_}
-use mathlib.Core.Bool.{Bool, true, false}
+use mathlib.Core.Bool.{true}
 use Prim.Native.Nat.{ℕ, zero, suc, _+_, _*_, _-_, _/_, _%_, _^_, _≤_, _<_, min}
 use native.Mathlib.Nat.{mod-one, zero-mod, mul-zero, mul-one, mod-lt, lt-of-lt-of-le}
 use native.Mathlib.Decide.{decLe, decLt}
 use native.Mathlib.Omega.{arith}
 use borrow.Author.Tests.{eqb-true, eq-eqb}
-use lib.Dec.{eqb}
 use Rattle.wavelet.specs.Transform.{Kind, LL, HL, LH, HH}
 use Rattle.wavelet.specs.Bands.{τx, τy, Has}
 use Rattle.layout.specs.declared.Shape.{Shape}
-use Rattle.layout.specs.Bands.{sy, N′y, Nβ, β₁, letters, filter-type, first-types, kind, dx, dy, depth, exists, letters-of, across-of, down-of}
-use Rattle.layout.specs.Built.{Built, Sampled}
+use Rattle.layout.specs.Bands.{sy, N′y, Nβ, β₁, letters, filter-type, first-types, kind, dx, dy, depth, exists}
+use Rattle.layout.specs.Built.{Built}
 use Rattle.layout.proofs.Filters.{TypeIs, Way, at-low, at-across, at-both, way, type-low, type-across, type-both, first-is, filters-is, both-parts, formula, across-sum}
 use Rattle.layout.proofs.Reaches.{double}
 

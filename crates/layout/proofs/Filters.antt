@@ -1,16 +1,12 @@
 -- Filter types: the three ways that a β goes, and what follows from each. Assumes nothing.
-use mathlib.Core.Path.{_≡_, refl, sym, ap, _∙_}
-use mathlib.Core.Bool.{Bool, true, false, cond}
-use mathlib.Core.Logic.{_⊎_, inl, inr}
-use Prim.Native.Nat.{ℕ, zero, suc, _+_, _*_, _-_, _/_, _%_, _^_, _≤_, _<_, min, max}
+use mathlib.Core.Path.{_≡_, refl}
+use Prim.Native.Nat.{ℕ, zero, suc, _+_, _*_, _-_, _/_, _%_, _≤_, _<_}
 use native.Mathlib.Nat.{mod-lt}
 use native.Mathlib.Decide.{decLt}
 use native.Mathlib.Omega.{arith}
-use borrow.Author.Tests.{lt-ltb, le-ltb, eq-eqb, ne-eqb}
-use lib.Dec.{eqb, ltb}
+use borrow.Author.Tests.{lt-ltb, le-ltb, ne-eqb}
 use Rattle.wavelet.specs.Transform.{Kind, LL, HL, LH, HH}
 use Rattle.wavelet.specs.Bands.{τx, τy}
-use Rattle.layout.specs.declared.bands.Filter.{Filter}
 use Rattle.layout.specs.Bands.{filters, filter-type, first-types, letters, letters-of, across-of, down-of}
 use Rattle.layout.specs.Sizes.{filter-of, SmallFilter}
 

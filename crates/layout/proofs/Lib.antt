@@ -12,4 +12,5 @@ pub mod Existing
 pub mod Cells
 pub mod Cover
 pub mod Present
+pub mod Once
 pub mod Tables

@@ -1,9 +1,9 @@
 -- The slots, with the empty ones left out, are Table B.4's packets. Assumes nothing.
 use mathlib.Core.Path.{_≡_, refl, sym, ap, _∙_}
-use mathlib.Core.Bool.{Bool, true, false, cond, _&&_, and-true}
+use mathlib.Core.Bool.{Bool, true, _&&_, and-true}
 use mathlib.Core.List.{List, [], _∷_, _++_, append-assoc}
-use Prim.Native.Nat.{ℕ, zero, suc, _+_, _*_, _-_, _/_, _%_, _^_, _≤_, _<_, min, max}
-use native.Mathlib.Nat.{add-assoc, add-mul, mul-zero, zero-mul, zero-div, zero-mod, div-lt-iff-lt-mul, mod-lt, mul-add-div-right, mul-add-mod-self-right, div-eq-of-lt, mod-eq-of-lt, suc-mul, div-one, add-zero, zero-add}
+use Prim.Native.Nat.{ℕ, zero, suc, _+_, _*_, _-_, _/_, _%_, _^_, _≤_, _<_}
+use native.Mathlib.Nat.{add-assoc, add-mul, mul-zero, zero-mul, zero-div, zero-mod, div-lt-iff-lt-mul, mod-lt, mul-add-div-right, mul-add-mod-self-right, div-eq-of-lt, mod-eq-of-lt, suc-mul, add-zero}
 use native.Mathlib.Omega.{arith}
 use borrow.Author.Tests.{lt-ltb}
 use lib.Dec.{eqb, ltb}
@@ -20,7 +20,7 @@ use Rattle.layout.proofs.Sizes.{letter-low}
 use Rattle.layout.proofs.Filters.{Way, at-low, at-across, at-both, way, type-low, type-across, type-both, first-is, filters-is}
 use Rattle.layout.proofs.Reaches.{included-is, Hb-letter, rows-low}
 use Rattle.layout.proofs.Slots.{first-type, first-count, first-line, later-type, later-types, later-line}
-use Rattle.layout.specs.Slots.{slots, level-group, turn-of, slot-type, slot-types, slot-line, candidates, slot}
+use Rattle.layout.specs.Slots.{slots, level-group, turn-of, slot-type, slot-line, slot}
 
 -- ---- loops
 
@@ -91,7 +91,7 @@ three-steps b = omega arith
 -- ---- the first packet: its bands are low-pass down, and have a line in every row of precincts
 
 module _ (s : Shape) (β : ℕ) (f : β < β₁ s) where
-  first-letters : (τy (kind s β) ≡ 0) × (dy s β ≡ s .nly)
+  pub first-letters : (τy (kind s β) ≡ 0) × (dy s β ≡ s .nly)
   unfolding kind dy
   first-letters = by (way (s .nlx) (s .nly) β)
     where

@@ -2,15 +2,14 @@
 use mathlib.Core.Path.{_≡_, refl, sym, ap, _∙_}
 use mathlib.Core.Logic.{_⊎_, inl, inr}
 use Prim.Native.Nat.{ℕ, zero, suc, _+_, _*_, _-_, _/_, _%_, _^_, _≤_, _<_, min}
-use native.Mathlib.Nat.{eq-of-mul-eq-mul-left, mul-comm, mul-assoc, add-mul, mul-le-mul-right, pow-suc, two-pow-succ}
+use native.Mathlib.Nat.{eq-of-mul-eq-mul-left, mul-comm, mul-assoc, add-mul, pow-suc}
 use native.Mathlib.Decide.{decLt}
 use native.Mathlib.Omega.{arith}
 use lib.Pow.{pow-pos, pow-add}
-use Rattle.whole.specs.Numbers.{ceilDiv}
 use Rattle.wavelet.specs.Transform.{Kind, LL, HL, LH, HH, low-size, high-size}
 use Rattle.wavelet.specs.Bands.{τx, τy, Has, columns, rows, Coefficient}
 use Rattle.wavelet.specs.Places.{place}
-use Rattle.wavelet.proofs.Halves.{low-inside, high-inside, size-above}
+use Rattle.wavelet.proofs.Halves.{size-above}
 
 -- ---- powers of 2 and odd numbers
 

@@ -1,20 +1,20 @@
 -- What a present line says: its coefficients exist, they lie where the line says, and no packet is empty. Assumes nothing.
-use mathlib.Core.Path.{_≡_, refl, sym, subst, ap, _∙_}
+use mathlib.Core.Path.{_≡_, refl, ap, _∙_}
 use mathlib.Core.Bool.{Bool, true, false, _&&_}
 use mathlib.Core.List.{List, [], _∷_, List·Memᴰ, List·Memᴰ·cases-cons, List·Memᴰ·not-nil}
 use mathlib.Core.Logic.{_⊎_, inl, inr}
-use Prim.Native.Nat.{ℕ, zero, suc, _+_, _*_, _-_, _/_, _%_, _^_, _≤_, _<_}
+use Prim.Native.Nat.{ℕ, suc, _+_, _*_, _-_, _/_, _%_, _^_, _<_}
 use native.Mathlib.Omega.{arith}
 use borrow.Author.Tests.{ltb-true}
 use lib.Dec.{eqb, ltb}
 use lib.ListN.{length}
 use Rattle.layout.specs.declared.Shape.{Shape}
-use Rattle.layout.specs.Bands.{sy, Nβ, Wc, dx, dy, depth, Hb, Wb, exists, band}
+use Rattle.layout.specs.Bands.{sy, Nβ, Wc, dx, dy, depth, Hb, exists, band}
 use Rattle.layout.specs.Built.{Built}
 use Rattle.layout.specs.Precincts.{Npx, first-x, first-y, Wpb, L0}
-use Rattle.layout.specs.Packets.{loop, when, nonempty, Part, packets, included}
-use Rattle.layout.specs.Cells.{area, start, inner, cell}
-use Rattle.layout.specs.Slots.{slots, slot-type, slot-line, candidates, line, line-at, slot}
+use Rattle.layout.specs.Packets.{loop, when, nonempty, packets, included}
+use Rattle.layout.specs.Cells.{area, start, cell}
+use Rattle.layout.specs.Slots.{slot-type, slot-line, candidates, line, line-at, slot}
 use Rattle.layout.proofs.Reaches.{included-is}
 use Rattle.layout.proofs.Cover.{column-member}
 use Rattle.layout.proofs.Cells.{Exists, cell-inside, later-column, line-above}
@@ -47,28 +47,23 @@ slot-lines s row column k = refl
 
 -- ---- a present line
 
-both-true : (a b c : Bool) → (a && b && c) ≡ true → (a ≡ true) × (c ≡ true)
-both-true true true c e = (refl, e)
-both-true true false c e = absurd (clash e)
-  where
-    clash : false ≡ true → ⊥
-    clash z = let y : _≡_ {A = ℕ} 0 1 = cc in omega arith
-both-true false b c e = absurd (clash e)
-  where
-    clash : false ≡ true → ⊥
-    clash z = let y : _≡_ {A = ℕ} 0 1 = cc in omega arith
+-- three tests that all hold
+pub tests-true : (a b c : Bool) → (a && b && c) ≡ true → (a ≡ true) × (b ≡ true) × (c ≡ true)
+tests-true true true c e = (refl, refl, e)
+tests-true true false c e = absurd (let z : _≡_ {A = ℕ} 0 1 = cc in omega arith)
+tests-true false b c e = absurd (let z : _≡_ {A = ℕ} 0 1 = cc in omega arith)
 
 module _ (s : Shape) (built : Built s) (row column β i l : ℕ) (type : β < Nβ s) (h : i < s .nc) (fits : l < 2 ^ (s .nly - dy s β)) (c : column < Npx s)
     (there : included s row β i l ≡ true) where
   -- its coefficients are coefficients of an existing band
   pub line-exists : (n : ℕ) → n < Wpb s column β i → Exists s i β (first-x s column β i + n) (first-y s row β i + l / sy s i)
   line-exists n k =
-      let b = both-true (exists s β i) (eqb (l % sy s i) 0) (ltb (first-y s row β i + l / sy s i) (Hb s β i)) (included-is s β i built h row l fits ∙ there) in
+      let b = tests-true (exists s β i) (eqb (l % sy s i) 0) (ltb (first-y s row β i + l / sy s i) (Hb s β i)) (included-is s β i built h row l fits ∙ there) in
       record {
         type = type;
         there = b .0;
         column = column-member s built β i type h column (first-x s column β i + n) c (omega arith) (omega arith) .0;
-        row = ltb-true (first-y s row β i + l / sy s i) (Hb s β i) (b .1);
+        row = ltb-true (first-y s row β i + l / sy s i) (Hb s β i) (b .2);
       }
 
   -- the n-th lies n strides behind the first, inside the component's coefficient cells

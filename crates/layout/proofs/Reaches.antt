@@ -1,23 +1,23 @@
 -- The lines and columns of a band in a precinct, as the code computes them. Assumes nothing.
 use mathlib.Core.Path.{_≡_, refl, sym, ap, _∙_}
-use mathlib.Core.Bool.{Bool, true, false, cond, _&&_}
-use Prim.Native.Nat.{ℕ, zero, suc, _+_, _*_, _-_, _/_, _%_, _^_, _≤_, _<_, min, max}
-use native.Mathlib.Nat.{div-div-eq-div-mul, add-mul-div-left, mul-suc, mul-comm, mul-assoc, one-mul, mul-one, pow-suc, div-one, mod-one, zero-mod, mul-zero, add-mod-mod, div-add-mod', mul-lt-mul-of-pos-right, lt-of-mul-lt-mul-right}
+use mathlib.Core.Bool.{Bool, true, false, _&&_}
+use Prim.Native.Nat.{ℕ, zero, suc, _+_, _*_, _-_, _/_, _%_, _^_, _≤_, _<_, min}
+use native.Mathlib.Nat.{div-div-eq-div-mul, add-mul-div-left, mul-suc, one-mul, pow-suc, mod-one, zero-mod, mul-zero, add-mod-mod, div-add-mod', mul-lt-mul-of-pos-right, lt-of-mul-lt-mul-right}
 use native.Mathlib.Decide.{decLe, decLt}
 use native.Mathlib.Omega.{arith}
-use borrow.Author.Tests.{lt-ltb, le-ltb, eq-eqb, ne-eqb, eqb-true, eqb-false}
+use borrow.Author.Tests.{lt-ltb, le-ltb, eqb-true}
 use lib.Dec.{eqb, ltb}
-use lib.Pow.{pow-pos, pow-mono}
+use lib.Pow.{pow-pos}
 use Rattle.whole.specs.Numbers.{ceilDiv}
 use Rattle.wavelet.specs.Transform.{Kind, LL, HL, LH, HH, low-size, high-size}
 use Rattle.wavelet.specs.Bands.{τx, τy, columns, rows}
 use Rattle.layout.specs.declared.Shape.{Shape}
-use Rattle.layout.specs.Bands.{sx, sy, Wc, Hc, N′y, Nβ, kind, dx, dy, depth, Wb, Hb, exists, log2}
-use Rattle.layout.specs.Precincts.{Cs, Npx, Npy, Wp, by-letter, Wpb, first-y, most-lines, lines, L0, L1}
+use Rattle.layout.specs.Bands.{sx, sy, Hc, N′y, kind, dx, dy, depth, Hb, exists}
+use Rattle.layout.specs.Precincts.{Npy, Wp, by-letter, Wpb, first-y, most-lines, lines, L0, L1}
 use Rattle.layout.specs.Packets.{included}
-use Rattle.layout.specs.Built.{Built, Sampled}
+use Rattle.layout.specs.Built.{Built}
 use Rattle.layout.proofs.Filters.{τy-most}
-use Rattle.layout.proofs.Shapes.{dy-most, depth-own}
+use Rattle.layout.proofs.Shapes.{dy-most}
 
 -- ---- sizes by letter
 

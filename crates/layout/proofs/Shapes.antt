@@ -1,15 +1,14 @@
 -- What a built shape says of its components and bands. Assumes nothing.
-use mathlib.Core.Path.{_≡_, refl, sym, ap, _∙_}
-use Prim.Native.Nat.{ℕ, zero, suc, _+_, _*_, _-_, _/_, _%_, _^_, _≤_, _<_, min}
+use mathlib.Core.Path.{_≡_}
+use Prim.Native.Nat.{ℕ, _-_, _≤_, _<_}
 use native.Mathlib.Omega.{arith}
-use Rattle.whole.specs.Numbers.{ceilDiv}
 use Rattle.layout.specs.declared.Shape.{Shape}
 use Rattle.layout.specs.declared.bands.Component.{Component}
-use Rattle.layout.specs.Bands.{sx, sy, Wc, Hc, N′y, kind, dx, dy, depth, filters}
-use Rattle.layout.specs.Built.{Built, Sampled}
+use Rattle.layout.specs.Bands.{sx, sy, Wc, Hc, N′y, kind, dx, dy, depth}
+use Rattle.layout.specs.Built.{Built}
 use Rattle.layout.specs.Sizes.{component-of, SmallComponent, own-filter, SmallFilter}
 use Rattle.layout.proofs.Sizes.{ceil-most, ceil-some}
-use Rattle.layout.proofs.Filters.{filter-small, across-most, down-most, τx-most, τy-most}
+use Rattle.layout.proofs.Filters.{across-most, down-most, τx-most, τy-most}
 
 -- ---- components
 

@@ -1,12 +1,10 @@
 -- Slots: what the number of a slot says. Assumes nothing.
-use mathlib.Core.Path.{_≡_, refl, sym, ap, _∙_}
-use mathlib.Core.Bool.{cond}
+use mathlib.Core.Path.{_≡_, ap, _∙_}
 use Prim.Native.Nat.{ℕ, zero, suc, _+_, _*_, _-_, _/_, _%_, _^_, _≤_, _<_}
-use native.Mathlib.Nat.{div-eq-of-lt, div-lt-iff-lt-mul, mod-lt, mul-le-mul, one-mul}
+use native.Mathlib.Nat.{div-eq-of-lt, div-lt-iff-lt-mul, mod-lt, mul-le-mul}
 use native.Mathlib.Decide.{decLt}
 use native.Mathlib.Omega.{arith}
-use borrow.Author.Tests.{eq-eqb, ne-eqb}
-use lib.Dec.{eqb}
+use borrow.Author.Tests.{ne-eqb}
 use lib.Pow.{pow-pos, pow-mono}
 use Rattle.layout.specs.declared.Shape.{Shape}
 use Rattle.layout.specs.Bands.{Nβ, β₁, dy, first-types, down-of}
@@ -26,6 +24,11 @@ turn-parts (suc (suc zero)) (suc (suc zero)) h a b = (omega arith, omega arith, 
 turn-parts (suc (suc zero)) (suc (suc (suc zero))) h a b = (omega arith, omega arith, omega arith)
 turn-parts (suc (suc zero)) (suc (suc (suc (suc m)))) h a b = absurd (omega arith)
 turn-parts (suc (suc (suc n))) m h a b = absurd (omega arith)
+
+-- the depth of a filter type of the levels of both directions
+pub dy-level : (s : Shape) (β : ℕ) → first-types (s .nlx) (s .nly) ≤ β → dy s β ≡ s .nly - (β - first-types (s .nlx) (s .nly)) / 3
+unfolding dy
+dy-level s β h = type-both (s .nlx) (s .nly) β h .down
 
 module _ (s : Shape) (built : Built s) where
   pub power-most : 2 ^ s .nly ≤ 4

@@ -4,8 +4,8 @@ use mathlib.Core.List.{List, [], _∷_, map}
 use Prim.Native.Nat.{ℕ}
 use Rattle.wavelet.specs.Transform.{Kind, LL, HL, LH, HH}
 use Rattle.layout.specs.declared.Shape.{Shape}
-use Rattle.layout.specs.Bands.{filters, filter-type, letters-of, across-of, down-of, kind, dx, dy, depth, exists, Wc, Hc, Wb, Hb}
-use Rattle.layout.specs.Precincts.{largest, Cs, Npx, Npy, Wp, Wpb, lines, L0, L1}
+use Rattle.layout.specs.Bands.{filters, letters-of, across-of, down-of, kind, dx, dy, depth, exists, Wc, Hc, Hb}
+use Rattle.layout.specs.Precincts.{lines, L0, L1}
 use Rattle.layout.specs.Packets.{turns, nonempty, Part, included, first-packet, packet, packets}
 
 -- ---- filter types: the letters, dx and dy of each β

@@ -1,6 +1,6 @@
 -- What an accepted header says of its shape.
 use mathlib.Core.Path.{_≡_}
-use Prim.Native.Nat.{ℕ, _+_, _*_, _^_, _%_, _≤_, _<_}
+use Prim.Native.Nat.{ℕ, _*_, _^_, _%_, _≤_, _<_}
 use Rattle.wavelet.specs.Bands.{Decomposed}
 use Rattle.layout.specs.declared.Shape.{Shape}
 use Rattle.layout.specs.Bands.{sx, sy, Wc, Hc, N′x, N′y, log2}
@@ -15,7 +15,7 @@ pub record Sampled (s : Shape) (i : ℕ) : Type 0 where
   pub enough : log2 (sy s i) ≤ s .nly
   pub parts : Decomposed (Wc s i) (Hc s i) (N′x s i) (N′y s i)
 
--- Tables A.7 and A.9 within the built range
+-- Tables A.7 and A.15 within the built range
 pub record Built (s : Shape) : Type 0 where
   pub wide : 1 ≤ s .wf
   pub narrow : s .wf ≤ 16384

@@ -1,6 +1,6 @@
 -- Where a coefficient lies in the work buffer. Component i with n samples owns 2 n cells, one component after the other: its n coefficients, in the
 -- places of the samples that they become, and then its n counts in the same order.
-use Prim.Native.Nat.{ℕ, zero, suc, _+_, _*_, _^_}
+use Prim.Native.Nat.{ℕ, zero, suc, _+_, _*_}
 use Rattle.wavelet.specs.Bands.{τx, τy}
 use Rattle.wavelet.specs.Places.{place}
 use Rattle.layout.specs.declared.Shape.{Shape}

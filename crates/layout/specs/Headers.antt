@@ -1,5 +1,5 @@
 -- The part of Annex C that counts bands: the precinct header (Table C.1) and the truncation position (Table C.12).
-use mathlib.Core.Bool.{Bool, true, false, cond}
+use mathlib.Core.Bool.{cond}
 use Prim.Native.Nat.{ℕ, zero, suc, _+_, _*_, _-_, _/_, _^_, min}
 use lib.Dec.{ltb}
 use Rattle.whole.specs.Numbers.{ceilDiv}

@@ -1,12 +1,12 @@
 -- B.7 to B.9: the packets of a precinct, and the groups of a line.
-use mathlib.Core.Bool.{Bool, true, false, cond, _&&_}
+use mathlib.Core.Bool.{Bool, true, false, _&&_}
 use mathlib.Core.List.{List, [], _∷_, _++_}
 use Prim.Native.Nat.{ℕ, zero, suc, _+_, _*_, _-_, _%_, _^_}
 use lib.Dec.{eqb, ltb}
 use Rattle.whole.specs.Numbers.{ceilDiv}
 use Rattle.layout.specs.declared.Shape.{Shape}
 use Rattle.layout.specs.Bands.{sy, Nβ, β₁, dy, exists, band}
-use Rattle.layout.specs.Precincts.{Wpb, L0, L1}
+use Rattle.layout.specs.Precincts.{L0, L1}
 
 -- what `n` turns of a loop add, at x, x + step, ..
 unfoldable pub turns : {A : Type 0} → ℕ → ℕ → ℕ → (ℕ → List A) → List A

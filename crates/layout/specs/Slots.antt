@@ -2,14 +2,14 @@
 -- first packet. Slot k above 0 is line l of one filter type, in the order of Table B.4's loops: floor((k − 1) / 3) + 1 is 2^g + l for the g-th level of both
 -- directions, and (k − 1) mod 3 picks one of its three filter types.
 use mathlib.Core.Bool.{cond}
-use mathlib.Core.List.{List, [], _∷_}
+use mathlib.Core.List.{List}
 use Prim.Native.Nat.{ℕ, _+_, _*_, _-_, _/_, _%_, _^_}
 use lib.Dec.{eqb}
 use Rattle.layout.specs.declared.Shape.{Shape}
 use Rattle.layout.specs.declared.Line.{Line}
 use Rattle.layout.specs.Bands.{sy, β₁, Wc, band, dx, depth}
 use Rattle.layout.specs.Precincts.{Wpb, first-x, first-y, L0}
-use Rattle.layout.specs.Packets.{Part, part, included, loop, when, nonempty, Ncg, Ns}
+use Rattle.layout.specs.Packets.{Part, part, included, loop, when, Ncg, Ns}
 use Rattle.layout.specs.Cells.{area, cell}
 
 abbrev pub slots : Shape → ℕ

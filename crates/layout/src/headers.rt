@@ -8,7 +8,6 @@ use crate::numbers::smaller;
 ghost use mathlib.Core.Path.{_≡_};
 ghost use mathlib.Core.Bool.{cond};
 ghost use Prim.Native.Nat.{_+_, _*_, _<_, _≤_, _^_};
-ghost use lib.Dec.{ltb};
 ghost use Rattle.layout.specs.Bands.{NL, band-exists};
 ghost use Rattle.layout.specs.Built.{Built};
 ghost use Rattle.layout.specs.Headers.{modes, mode-bit, header-bytes, truncation};

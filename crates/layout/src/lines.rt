@@ -17,7 +17,7 @@ ghost use Rattle.layout.specs.Bands.{Nβ, dy};
 ghost use Rattle.layout.specs.Built.{Built};
 ghost use Rattle.layout.specs.Precincts.{Npx, Npy};
 ghost use Rattle.layout.specs.Cells.{area, samples};
-ghost use Rattle.layout.specs.Slots.{slots, slot-type, slot-types, slot-line, candidates, line, line-at};
+ghost use Rattle.layout.specs.Slots.{slots, candidates, line, line-at};
 ghost use Rattle.layout.specs.Sizes.{SmallBand, inner-of, IsReach, IsSpan, slot-of};
 
 // A line's row in its band, and whether the precinct has it.

@@ -8,7 +8,7 @@ use crate::numbers::product;
 ghost use mathlib.Core.Path.{_≡_};
 ghost use Prim.Native.Nat.{_*_, _<_, _≤_, _^_};
 ghost use Rattle.layout.specs.Built.{Built};
-ghost use Rattle.layout.specs.Precincts.{Npx, Npy, slices, slice-rows, Np};
+ghost use Rattle.layout.specs.Precincts.{Npx, Npy, slices, slice-top, slice-rows, Np};
 ghost use Rattle.layout.specs.Sizes.{IsLargest, IsColumnWidth, IsColumn};
 
 // A column of precincts on the sampling grid.
@@ -67,6 +67,14 @@ pub fn column_of(s: Shape, column: usize) -> Column
         x: x,
         width: (s.wf - 1) % cs + 1,
     }
+}
+
+// The first row of precincts of slice t.
+pub fn top_of_slice(s: Shape, t: usize) -> usize
+    requires { ⌜ Built s × (t < 2 ^ 16) ⌝ }
+    ensures { λ r. ⌜ (r ≡ slice-top s t) × (r < 2 ^ 60) ⌝ }
+{
+    product(t, s.hsl)
 }
 
 // The rows of precincts in slice t.

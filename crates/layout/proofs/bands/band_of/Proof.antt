@@ -1,12 +1,11 @@
 -- `layout::bands::band_of` meets its contract. Assumes nothing.
 use mathlib.Core.Path.{_≡_, sym, subst, _∙_}
-use Prim.Native.Nat.{ℕ, _*_, _-_, _%_, _^_, _≤_, min}
-use native.Mathlib.Omega.{arith}
+use Prim.Native.Nat.{_*_, _-_, _%_, _^_, _≤_, min}
 use borrow.Author.Needs.{needs}
 use lib.Dec.{eqb}
 use Rattle.layout.specs.declared.bands.Band.{Band}
-use Rattle.layout.specs.Bands.{sy, N′y, kind, dx, dy, depth, exists}
-use Rattle.layout.specs.Sizes.{filter-of, component-of, band-of, SmallFilter}
+use Rattle.layout.specs.Bands.{kind, dx, dy, depth, exists}
+use Rattle.layout.specs.Sizes.{band-of, SmallFilter}
 use Rattle.layout.proofs.Filters.{filter-small, down-most}
 use Rattle.layout.proofs.Shapes.{own-small, depth-own}
 use Rattle.layout.proofs.bands.band_of.Statement.{statement}

@@ -1,10 +1,10 @@
 -- `layout::bands::filter_type` meets its contract: each way out is one of the three ways that a β goes. Assumes nothing.
-use mathlib.Core.Path.{_≡_, refl, sym, ap, _∙_}
-use Prim.Native.Nat.{ℕ, _+_, _-_, _/_, _%_, _≤_}
+use mathlib.Core.Path.{_≡_, sym, ap, _∙_}
+use Prim.Native.Nat.{ℕ, _+_, _-_, _/_, _%_}
 use native.Mathlib.Nat.{mod-lt}
 use native.Mathlib.Omega.{arith}
 use borrow.Author.Needs.{needs}
-use Rattle.wavelet.specs.Transform.{LL, HL}
+use Rattle.wavelet.specs.Transform.{LL}
 use Rattle.wavelet.specs.Bands.{τx, τy}
 use Rattle.layout.specs.Bands.{first-types}
 use Rattle.layout.proofs.Filters.{TypeIs, type-low, type-across, type-both, τx-letters, τy-letters}

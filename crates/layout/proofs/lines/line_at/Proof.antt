@@ -1,9 +1,8 @@
 -- `layout::lines::line_at` meets its contract. Assumes nothing.
-use mathlib.Core.Path.{_≡_, sym, subst, _∙_}
-use Prim.Native.Nat.{ℕ, _+_, _-_, _/_, _%_, _^_, _<_}
+use mathlib.Core.Path.{sym, subst, _∙_}
+use Prim.Native.Nat.{_+_, _-_, _/_, _%_, _^_, _<_}
 use native.Mathlib.Nat.{mod-lt}
 use native.Mathlib.Omega.{arith}
-use borrow.Author.Needs.{needs}
 use Rattle.layout.specs.declared.lines.Slot.{Slot}
 use Rattle.layout.specs.Bands.{Nβ, dy}
 use Rattle.layout.specs.Slots.{line, line-at}

@@ -1,19 +1,17 @@
 -- `layout::lines::line_of` meets its contract. Assumes nothing.
-use mathlib.Core.Path.{_≡_, sym, ap, _∙_}
-use mathlib.Core.Bool.{Bool, _&&_}
-use Prim.Native.Nat.{ℕ, _+_, _*_, _-_, _/_, _%_, _^_, _≤_, _<_}
+use mathlib.Core.Path.{_≡_, ap, _∙_}
+use mathlib.Core.Bool.{_&&_}
+use Prim.Native.Nat.{_+_, _*_, _-_, _/_, _%_, _^_, _≤_}
 use native.Mathlib.Nat.{mul-le-mul}
 use native.Mathlib.Omega.{arith}
-use borrow.Author.Needs.{needs}
 use lib.Dec.{eqb, ltb}
 use Rattle.layout.specs.declared.bands.Band.{Band}
-use Rattle.layout.specs.declared.precincts.Column.{Column}
 use Rattle.layout.specs.declared.lines.Reach.{Reach}
 use Rattle.layout.specs.declared.lines.Span.{Span}
-use Rattle.layout.specs.Bands.{sx, sy, exists, band}
+use Rattle.layout.specs.Bands.{sy, exists, band}
 use Rattle.layout.specs.Precincts.{first-x, first-y, Wpb}
 use Rattle.layout.specs.Packets.{included, Ncg, Ns}
-use Rattle.layout.specs.Cells.{area, inner, samples}
+use Rattle.layout.specs.Cells.{area, inner}
 use Rattle.layout.specs.Slots.{line}
 use Rattle.layout.specs.Sizes.{band-of, column-of, reach-of, span-of, inner-of}
 use Rattle.layout.proofs.Columns.{Npy-most}

@@ -1,9 +1,8 @@
 -- `layout::lines::slot_count` meets its contract. Assumes nothing.
-use mathlib.Core.Path.{_≡_, ap}
+use mathlib.Core.Path.{ap}
 use Prim.Native.Nat.{ℕ, _+_, _*_, _-_}
 use native.Mathlib.Omega.{arith}
 use borrow.Author.Needs.{needs}
-use Rattle.layout.specs.Slots.{slots}
 use Rattle.layout.proofs.Slots.{slots-most}
 use Rattle.layout.proofs.lines.slot_count.Statement.{statement}
 use Rattle.layout.proofs.lines.slot_count.Tie as tie

@@ -1,9 +1,8 @@
 -- `layout::lines::slot_of` meets its contract. Assumes nothing.
-use mathlib.Core.Path.{_≡_, sym, ap, _∙_}
-use Prim.Native.Nat.{ℕ, _+_, _*_, _-_, _/_, _%_, _≤_}
+use mathlib.Core.Path.{sym, ap, _∙_}
+use Prim.Native.Nat.{ℕ, _+_, _*_, _-_, _/_, _%_}
 use native.Mathlib.Omega.{arith}
 use borrow.Author.Needs.{needs}
-use Rattle.layout.specs.Bands.{β₁}
 use Rattle.layout.specs.Slots.{turn-of}
 use Rattle.layout.proofs.Filters.{first-is}
 use Rattle.layout.proofs.Slots.{slots-most, first-type, first-count, first-line, later-type, later-types, later-line, later-turn}

@@ -1,7 +1,6 @@
 -- `layout::numbers::low_size` meets its contract. Assumes nothing.
 use mathlib.Core.Path.{ap}
 use Prim.Native.Nat.{ℕ, _+_, _-_, _/_, _^_}
-use native.Mathlib.Omega.{arith}
 use borrow.Author.Needs.{needs}
 use Rattle.layout.proofs.numbers.low_size.Statement.{statement}
 use Rattle.layout.proofs.numbers.low_size.Tie as tie

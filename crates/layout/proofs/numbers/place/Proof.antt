@@ -1,7 +1,6 @@
 -- `layout::numbers::place` meets its contract. Assumes nothing.
 use mathlib.Core.Path.{_∙_, ap}
 use Prim.Native.Nat.{ℕ, _+_, _*_, _^_}
-use native.Mathlib.Omega.{arith}
 use borrow.Author.Needs.{needs}
 use Rattle.layout.proofs.numbers.place.Statement.{statement}
 use Rattle.layout.proofs.numbers.place.Tie as tie

@@ -1,0 +1,2 @@
+-- Laws of the pictures that are printed.
+pub mod Builds
