@@ -3,4 +3,3 @@ pub mod Precinct
 pub mod Slice
 pub mod Stream
 pub mod Steps
-pub mod Stub

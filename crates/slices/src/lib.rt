@@ -1,6 +1,5 @@
 // From the first slice header to the end of the stream: slices and their precincts.
 pub mod precincts;
-mod stub;
 pub mod tops;
 
 use layout::precincts::precinct_columns;

@@ -1,6 +1,6 @@
 // Document 01, distance rule 1: the largest T of each band.
-use crate::stub::has_lines;
 use layout::headers::band_count;
+use layout::lines::has_lines;
 use packets::Precinct;
 use packets::Setting;
 use packets::bands::truncation_of;
