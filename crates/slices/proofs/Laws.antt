@@ -1,13 +1,13 @@
 -- What precincts, slices and the stream leave, for the layers above: where a reading ends, which cells it keeps, and the largest T. Assumes nothing.
-use Prim.Native.Nat.{ℕ, zero, suc, _+_, _*_, _/_, _%_, _≤_, _<_, max}
-use mathlib.Core.Path.{_≡_, refl, sym, _∙_}
-use mathlib.Core.Bool.{Bool, true, false, cond, _&&_}
+use Prim.Native.Nat.{ℕ, zero, suc, _+_, _≤_, _<_, max}
+use mathlib.Core.Path.{_≡_, refl, _∙_}
+use mathlib.Core.Bool.{Bool, true, false, cond}
 use mathlib.Core.List.{List, [], _∷_}
 use native.Mathlib.Omega.{arith}
 use lib.IntN.{ℤ}
 use lib.ListN.{length, getD, set, length-set}
 use Rattle.whole.specs.Cells.{cell}
-use Rattle.loops.specs.Run.{Turn, go, stop, run}
+use Rattle.loops.specs.Run.{Turn, go}
 use Rattle.loops.proofs.Laws.{Kept, run-keeps}
 use Rattle.rows.specs.Rows.{first}
 use Rattle.rows.proofs.Tables.{held}
@@ -77,7 +77,7 @@ module _ (s : List ℕ) (c : Setting) (P : List ℤ → Type 0) where
 
     pub slice-keeps : (t : ℕ) → t < slices (c .shape) → (x : State) → P (x .2) → P (slice s c t x .1 .2)
     unfolding slice precincts
-    slice-keeps t l x h = by (first (sliceChecks s c t (x .0)))
+    slice-keeps t l x h = by (first (sliceChecks s t (x .0)))
       where
         by : (v : Verdict) → P (precinctsBy s c t v x .1 .2)
         by Fine =
@@ -176,7 +176,7 @@ module _ (s : List ℕ) (c : Setting) (settled : Settled c) where
 
   pub slice-few : (t : ℕ) (x : State) → Few (x .1) → Few (slice s c t x .1 .1)
   unfolding slice precincts precinctTurn
-  slice-few t x h = by (first (sliceChecks s c t (x .0)))
+  slice-few t x h = by (first (sliceChecks s t (x .0)))
     where
       by : (v : Verdict) → Few (precinctsBy s c t v x .1 .1)
       by Fine =

@@ -6,10 +6,9 @@ use mathlib.Core.List.{List, [], _∷_}
 use native.Mathlib.Numerals.{add-one}
 use native.Mathlib.Omega.{arith}
 use borrow.Author.Tests.{le-ltb}
-use lib.Dec.{ltb}
 use lib.IntN.{ℤ}
 use lib.ListN.{length, set, getD}
-use Rattle.loops.specs.Run.{Turn, go, stop}
+use Rattle.loops.specs.Run.{go, stop}
 use Rattle.rows.specs.Rows.{check, first, each, then}
 use Rattle.rows.specs.declared.Check.{Check}
 use Rattle.rows.specs.declared.Verdict.{Verdict}
@@ -114,7 +113,6 @@ module _ (s : List ℕ) (c : Setting) (row column place slot at : ℕ) (raws : L
   pub packet-absent : anyLine c p slot (candidates (c .shape) slot) ≡ false → packetTurn s c row column place slot (at, raws, cells) ≡ go (at, raws, cells)
   unfolding packetTurn
   packet-absent none = rw ((λ i. anyLine c (sym (e .is) i) slot (candidates (c .shape) slot)) ∙ none)
-
 
 -- a slot that refuses stops the packets, and one that does not goes on
 module _ {s : List ℕ} {c : Setting} {p : Precinct} {slot at : ℕ} {raws : List ℕ} {cells cells′ : List ℤ} {f : Flags} (x : Passed s c p slot at raws cells f cells′) where

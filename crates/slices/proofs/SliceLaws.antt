@@ -1,7 +1,6 @@
 -- What the steps of a slice and of the stream rest on. Assumes nothing.
-use Prim.Native.Nat.{ℕ, _+_, _*_, _/_, _%_, _≤_, _<_}
-use mathlib.Core.Path.{_≡_, refl, sym, ap, _∙_}
-use mathlib.Core.Bool.{Bool, true, false}
+use Prim.Native.Nat.{ℕ, _+_, _/_, _%_, _≤_, _<_}
+use mathlib.Core.Path.{_≡_, refl, sym, _∙_}
 use mathlib.Core.List.{List, [], _∷_, _++_}
 use native.Mathlib.Nat.{mul-comm, mod-lt, div-lt-iff-lt-mul}
 use native.Mathlib.Omega.{arith}
@@ -87,9 +86,9 @@ module _ (s : List ℕ) (c : Setting) (t n at : ℕ) (tops : List ℕ) (cells : 
       rw e
       (record {
         is =
-          (λ i. placed s c t n (at, tops, cells) (f i))
-          ∙ placed-is v cells′
-          ∙ (λ i. further (behind v c (sym (x .is) i) at tops .verdict) (behind v c (sym (x .is) i) at tops .at, behind v c (sym (x .is) i) at tops .tops, cells′));
+            (λ i. placed s c t n (at, tops, cells) (f i))
+            ∙ placed-is v cells′
+            ∙ (λ i. further (behind v c (sym (x .is) i) at tops .verdict) (behind v c (sym (x .is) i) at tops .at, behind v c (sym (x .is) i) at tops .tops, cells′));
         inside = ends-in v (λ z. omega (arith, ends-at x, precinct-inside s c (rowOf s c t n) (columnOf s c t n) at (isTop s c t n) cells ((λ i. f i .0) ∙ z)));
       })
 
@@ -103,8 +102,8 @@ module _ (c : Setting) (p : Precinct) (at : ℕ) (tops : List ℕ) where
 
 -- ---- the header of a slice
 
-pub header-ends : (s : List ℕ) (c : Setting) (t at : ℕ) → first (sliceChecks s c t at) ≡ Fine → at + 6 ≤ length s
-header-ends s c t at e =
+pub header-ends : (s : List ℕ) (t at : ℕ) → first (sliceChecks s t at) ≡ Fine → at + 6 ≤ length s
+header-ends s t at e =
     let l = lengthChecks (segmentAt s at) Lslh 4 4 in
     let y = check Value (at + 4) Ysl (fieldAt s (at + 4) 16) t t ∷ [] in
     let h = held l (append-fine l y (append-fine (sliceMarker (segmentAt s at)) (l ++ y) e .1) .0) in

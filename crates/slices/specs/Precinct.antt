@@ -1,8 +1,8 @@
 -- C.2: a precinct, its header and its packets, which fill it exactly.
-use Prim.Native.Nat.{ℕ, zero, suc, _+_, _*_, _-_, _/_, _%_, _^_, max}
-use mathlib.Core.Bool.{Bool, true, false, cond, _&&_}
+use Prim.Native.Nat.{ℕ, zero, suc, _+_, _-_, _/_, _%_, _^_, max}
+use mathlib.Core.Bool.{Bool, cond, _&&_}
 use mathlib.Core.List.{List, [], _∷_, _++_}
-use lib.Dec.{eqb, ltb}
+use lib.Dec.{ltb}
 use lib.IntN.{ℤ}
 use lib.ListN.{length, getD, set}
 use Rattle.loops.specs.Run.{Turn, go, stop, run}
@@ -20,7 +20,7 @@ use Rattle.layout.specs.Slots.{slots, candidates}
 use Rattle.packets.specs.declared.Setting.{Setting}
 use Rattle.packets.specs.declared.Precinct.{Precinct}
 use Rattle.packets.specs.Precincts.{D, T}
-use Rattle.packets.specs.Packets.{Left, anyLine, head, past, packet}
+use Rattle.packets.specs.Packets.{anyLine, head, past, packet}
 
 -- what a precinct, a slice or a stream leaves: the verdict, and the cells
 abbrev pub refused : Verdict → List ℤ → Verdict × List ℤ

@@ -1,10 +1,9 @@
 -- A.4.14 and B.11: a slice, its header and its precincts, from left to right and from top to bottom.
-use Prim.Native.Nat.{ℕ, _+_, _*_, _-_, _/_, _%_}
-use mathlib.Core.Bool.{Bool, cond}
+use Prim.Native.Nat.{ℕ, _+_, _/_, _%_}
+use mathlib.Core.Bool.{Bool}
 use mathlib.Core.List.{List, [], _∷_, _++_}
 use lib.Dec.{eqb}
 use lib.IntN.{ℤ}
-use lib.ListN.{length}
 use Rattle.loops.specs.Run.{Turn, go, stop, run}
 use Rattle.rows.specs.Rows.{check, ample, first}
 use Rattle.rows.specs.declared.Check.{Check}
@@ -37,12 +36,12 @@ sliceMarker g =
     ∷ check Lacking (g .at) Slh (g .marker) SLH SLH
     ∷ []
 
-module _ (s : List ℕ) (c : Setting) (t : ℕ) where
-  -- A.4.14: the length is 4, the slice index Ysl is t
-  abbrev pub sliceChecks : ℕ → List Check
-  sliceChecks at =
-      sliceMarker (segmentAt s at) ++ (lengthChecks (segmentAt s at) Lslh 4 4 ++ (check Value (at + 4) Ysl (fieldAt s (at + 4) 16) t t ∷ []))
+-- A.4.14: the length is 4, the slice index Ysl is t
+abbrev pub sliceChecks : List ℕ → ℕ → ℕ → List Check
+sliceChecks s t at =
+    sliceMarker (segmentAt s at) ++ (lengthChecks (segmentAt s at) Lslh 4 4 ++ (check Value (at + 4) Ysl (fieldAt s (at + 4) 16) t t ∷ []))
 
+module _ (s : List ℕ) (c : Setting) (t : ℕ) where
   -- precinct n of the slice
   abbrev pub rowOf : ℕ → ℕ
   rowOf n = slice-top (c .shape) t + n / Npx (c .shape)
@@ -71,4 +70,4 @@ module _ (s : List ℕ) (c : Setting) (t : ℕ) where
 
   -- slice t, whose header stands at the state's place
   unfoldable pub slice : State → Left
-  slice x = precinctsBy (first (sliceChecks (x .0))) x
+  slice x = precinctsBy (first (sliceChecks s t (x .0))) x

@@ -1,7 +1,7 @@
 -- What the steps of a precinct, a slice and the stream ask and answer.
-use Prim.Native.Nat.{ℕ, _+_, _^_, _≤_, _<_}
+use Prim.Native.Nat.{ℕ, _^_, _≤_, _<_}
 use mathlib.Core.Path.{_≡_}
-use mathlib.Core.Bool.{Bool, true, false}
+use mathlib.Core.Bool.{Bool, false}
 use mathlib.Core.List.{List}
 use lib.IntN.{ℤ}
 use lib.ListN.{length}
@@ -9,15 +9,15 @@ use Rattle.loops.specs.Run.{Turn, go, stop}
 use Rattle.rows.specs.declared.Verdict.{Verdict}
 use Rattle.rows.specs.declared.Verdict.the-variants.{Fine, Refused}
 use Rattle.layout.specs.Bands.{NL}
-use Rattle.layout.specs.Precincts.{Npx, Npy, Np, slices}
+use Rattle.layout.specs.Precincts.{Npx, Npy}
 use Rattle.layout.specs.Cells.{start}
 use Rattle.packets.specs.declared.Setting.{Setting}
 use Rattle.packets.specs.declared.Precinct.{Precinct}
-use Rattle.packets.specs.Ready.{Settled, Standing}
+use Rattle.packets.specs.Ready.{Settled}
 use Rattle.slices.specs.declared.precincts.Flags.{Flags}
 use Rattle.slices.specs.declared.Reading.{Reading}
 use Rattle.slices.specs.Precinct.{precinctAt, packetTurn, raised}
-use Rattle.slices.specs.Slice.{State, Left, precinctTurn}
+use Rattle.slices.specs.Slice.{State, Left}
 
 -- ---- what is asked
 

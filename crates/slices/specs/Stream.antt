@@ -1,12 +1,10 @@
 -- A.2, Table A.1: the slices, the end marker, and nothing behind it.
 use Prim.Native.Nat.{ℕ, _+_, _-_}
 use mathlib.Core.List.{List, [], _∷_}
-use lib.IntN.{ℤ}
 use lib.ListN.{length}
 use Rattle.loops.specs.Run.{Turn, go, stop, run}
 use Rattle.rows.specs.Rows.{check, ample, first}
 use Rattle.rows.specs.declared.Check.{Check}
-use Rattle.rows.specs.declared.Verdict.{Verdict}
 use Rattle.rows.specs.declared.Verdict.the-variants.{Fine, Refused}
 use Rattle.rows.specs.declared.Row.the-variants.{Cut, Marker}
 use Rattle.rows.specs.declared.Field.the-variants.{Eoc, Tail}

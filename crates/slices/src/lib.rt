@@ -36,15 +36,29 @@ pub struct Reading {
 }
 
 // The header of slice t.
-fn slice_row(s: &[u8], c: Setting, t: usize, at: usize) -> Verdict
+fn slice_row(s: &[u8], t: usize, at: usize) -> Verdict
     requires { ⌜ at < 2 ^ 32 ⌝ }
-    ensures { λ r. ⌜ r ≡ first (sliceChecks (now (s .entry)) c t at) ⌝ }
+    ensures { λ r. ⌜ r ≡ first (sliceChecks (now (s .entry)) t at) ⌝ }
 {
     let g = Segment::read(s, at);
     let marker = rows::first([
         Check(Row::Cut, g.at, Field::Slh, g.left, 2, AMPLE),
-        Check(Row::Marker, g.at, Field::Slh, g.marker, Marker::SLH, Marker::SLI),
-        Check(Row::Lacking, g.at, Field::Slh, g.marker, Marker::SLH, Marker::SLH),
+        Check(
+            Row::Marker,
+            g.at,
+            Field::Slh,
+            g.marker,
+            Marker::SLH,
+            Marker::SLI,
+        ),
+        Check(
+            Row::Lacking,
+            g.at,
+            Field::Slh,
+            g.marker,
+            Marker::SLH,
+            Marker::SLH,
+        ),
         HOLDS,
         HOLDS,
         HOLDS,
@@ -98,7 +112,14 @@ fn precinct_turn(
 }
 
 // The precincts of slice t.
-fn all_precincts(s: &[u8], cells: &mut [i64], c: Setting, t: usize, at: usize, tops: [usize; 40]) -> Reading
+fn all_precincts(
+    s: &[u8],
+    cells: &mut [i64],
+    c: Setting,
+    t: usize,
+    at: usize,
+    tops: [usize; 40],
+) -> Reading
     requires { ⌜ Lent (now s) c at (length (now cells)) × (t < slices (c .shape)) ⌝ }
     ensures { λ r. ⌜ Read (now (s .entry)) (precincts (now (s .entry)) c t (at, tops, now (cells .entry))) r (now (cells .exit)) ⌝ }
 {
@@ -154,11 +175,18 @@ fn precincts_by(
 }
 
 // Slice t, whose header stands at `at`. `tops` are the bands' largest T of the slices before.
-pub fn slice(s: &[u8], cells: &mut [i64], c: Setting, t: usize, at: usize, tops: [usize; 40]) -> Reading
+pub fn slice(
+    s: &[u8],
+    cells: &mut [i64],
+    c: Setting,
+    t: usize,
+    at: usize,
+    tops: [usize; 40],
+) -> Reading
     requires { ⌜ Lent (now s) c at (length (now cells)) × (t < slices (c .shape)) ⌝ }
     ensures { λ r. ⌜ Read (now (s .entry)) (slice (now (s .entry)) c t (at, tops, now (cells .entry))) r (now (cells .exit)) ⌝ }
 {
-    let v = slice_row(s, c, t, at);
+    let v = slice_row(s, t, at);
     precincts_by(v, s, cells, c, t, at, tops)
 }
 
@@ -172,7 +200,14 @@ fn end_row(s: &[u8], at: usize) -> Verdict
     let behind = left(s, at + 2);
     rows::first([
         Check(Row::Cut, at, Field::Eoc, there, 2, AMPLE),
-        Check(Row::Marker, at, Field::Eoc, marker, Marker::EOC, Marker::EOC),
+        Check(
+            Row::Marker,
+            at,
+            Field::Eoc,
+            marker,
+            Marker::EOC,
+            Marker::EOC,
+        ),
         Check(Row::Marker, at + 2, Field::Tail, behind, 0, 0),
         HOLDS,
         HOLDS,

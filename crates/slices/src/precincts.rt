@@ -14,7 +14,7 @@ use rows::HOLDS;
 use rows::Row;
 use rows::Verdict;
 ghost use mathlib.Core.Path.{_≡_};
-ghost use mathlib.Core.Bool.{cond, true, false};
+ghost use mathlib.Core.Bool.{cond};
 ghost use mathlib.Core.List.{[], _∷_};
 ghost use Prim.Native.Nat.{_+_, _*_, _-_, _/_, _%_, _≤_, _<_, _^_};
 ghost use lib.ListN.{length};
@@ -26,11 +26,11 @@ ghost use Rattle.rows.specs.declared.Field.the-variants.{D as ModeField, Rest};
 ghost use Rattle.layout.specs.Bands.{NL};
 ghost use Rattle.layout.specs.Slots.{slots};
 ghost use Rattle.packets.specs.Ready.{Settled, Standing};
-ghost use Rattle.slices.specs.Precinct.{fieldChecks, modeChecks, headerChecks, restChecks, packets, packetsBy, precinct};
+ghost use Rattle.slices.specs.Precinct.{fieldChecks, modeChecks, headerChecks, packets, packetsBy, precinct};
 ghost use Rattle.slices.specs.Steps.{Lent, Placed, IsPrecinct, Passed};
 
 // What a slot of a precinct leaves beside the cells: the verdict, the next place, and the raw flags of the slots so far.
-pub struct Flags {
+struct Flags {
     verdict: Verdict,
     at: usize,
     raws: [usize; 10],

@@ -6,7 +6,6 @@ use packets::Setting;
 use packets::bands::truncation_of;
 ghost use mathlib.Core.Path.{_≡_};
 ghost use Prim.Native.Nat.{_<_};
-ghost use lib.ListN.{getD};
 ghost use Rattle.layout.specs.Bands.{NL};
 ghost use Rattle.layout.specs.Precincts.{Npy};
 ghost use Rattle.packets.specs.Ready.{Settled};

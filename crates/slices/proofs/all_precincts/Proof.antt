@@ -1,7 +1,6 @@
 use Prim.Native.Nat.{_≤_, _-_}
 use mathlib.Core.Path.{_≡_, refl, sym, _∙_}
 use native.Mathlib.Omega.{arith}
-use denote.Ref.{now}
 use lib.ListN.{length}
 use Rattle.rows.specs.declared.Verdict.the-variants.{Fine}
 use Rattle.loops.proofs.Laws.{Going, begins, goes-on, stops, ends}
@@ -33,8 +32,7 @@ loop-holds c = (begins, c .before .before .pre .0 .inside, refl)
 precinct-turn-requires : tie.Need-precinct-turn-requires Inv-loop μ-loop
 precinct-turn-requires c κs =
     let h = c .before .before .before .before .before .pre in
-    let l = c .before .before .loop in
-    (
+    let l = c .before .before .loop in (
       record { settled = h .0 .settled; short = h .0 .short; inside = l .inv .1; room = omega (arith, h .0 .room, l .inv .2) },
       h .1,
       omega (arith, c .before .loop-test .taken, c .before .before .before .precincts-in-slice .ensures),
@@ -54,8 +52,7 @@ loop-again : tie.Need-loop-again Inv-loop μ-loop
 loop-again c =
     let l = c .before .before .before .before .before .before .before .loop in
     let r = c .before .before .before .before .precinct-turn in
-    let v = c .enum-told .given .1 in
-    (
+    let v = c .enum-told .given .1 in (
       goes-on (l .inv .0) (omega (arith, c .before .before .before .before .before .before .loop-test .taken, c .before .before .before .before .before .before .before .before .precincts-in-slice .ensures)) (turned-goes (r .ensures) v),
       r .ensures .inside v,
       r .kept .1 .0 ∙ l .inv .2,

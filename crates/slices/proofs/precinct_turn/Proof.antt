@@ -1,5 +1,5 @@
-use Prim.Native.Nat.{_/_, _%_}
-use mathlib.Core.Path.{_≡_, sym, _∙_}
+use Prim.Native.Nat.{_/_}
+use mathlib.Core.Path.{_≡_}
 use native.Mathlib.Omega.{arith}
 use denote.Ref.{now}
 use Rattle.layout.specs.Precincts.{Npx}
@@ -33,8 +33,7 @@ precinct-requires : tie.Need-precinct-requires
 precinct-requires c κs =
     let a = c .before .before .before .before .before .before .args in
     let h = c .before .before .before .before .before .before .pre in
-    let x = c .before .precinct-at .ensures in
-    (
+    let x = c .before .precinct-at .ensures in (
       record { settled = h .0 .settled; short = h .0 .short; inside = omega (arith, place-is x, h .0 .inside); room = h .0 .room },
       placed-in (now (a .s)) (a .c) (a .t) (a .n) (a .at) (c .before .before .before .precinct-columns .ensures .0) x (h .0 .settled) (h .1) (h .2),
       own x,

@@ -1,5 +1,4 @@
-use mathlib.Core.Path.{_≡_, refl, sym, _∙_}
-use native.Mathlib.Omega.{arith}
+use mathlib.Core.Path.{sym, _∙_}
 use denote.Ref.{now}
 use Rattle.slices.specs.Slice.{precinctsBy}
 use Rattle.slices.proofs.PrecinctLaws.{clash, settled}

@@ -1,4 +1,4 @@
-use mathlib.Core.Path.{_≡_, sym, _∙_}
+use mathlib.Core.Path.{sym, _∙_}
 use denote.Ref.{now}
 use Rattle.slices.specs.Slice.{precinctsBy, slice}
 use Rattle.slices.proofs.SliceLaws.{header-ends, read-still}
@@ -10,7 +10,7 @@ precincts-by-requires : tie.Need-precincts-by-requires
 precincts-by-requires c κs =
     let a = c .before .before .before .args in
     let h = c .before .before .before .pre in
-    (h .0, h .1, (λ e. header-ends (now (a .s)) (a .c) (a .t) (a .at) (sym (c .before .slice-row .ensures) ∙ e)))
+    (h .0, h .1, (λ e. header-ends (now (a .s)) (a .t) (a .at) (sym (c .before .slice-row .ensures) ∙ e)))
 
 returns : tie.Need-returns
 unfolding slice

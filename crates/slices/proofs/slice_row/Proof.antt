@@ -1,14 +1,13 @@
 use Prim.Native.Nat.{_+_}
-use mathlib.Core.Path.{_≡_, _∙_}
+use mathlib.Core.Path.{_∙_}
 use mathlib.Core.List.{[], _∷_, _++_}
 use native.Mathlib.Omega.{arith}
 use denote.Ref.{now}
-use Rattle.rows.specs.Rows.{check, ample, first}
-use Rattle.rows.specs.declared.Row.the-variants.{Cut, Marker, Value, Lacking}
-use Rattle.rows.specs.declared.Field.the-variants.{Slh, Lslh, Ysl}
+use Rattle.rows.specs.Rows.{check, first}
+use Rattle.rows.specs.declared.Row.the-variants.{Value}
+use Rattle.rows.specs.declared.Field.the-variants.{Lslh, Ysl}
 use Rattle.rows.proofs.Tables.{joined}
 use Rattle.bits.specs.Fields.{fieldAt}
-use Rattle.picture.specs.Markers.{SLH, SLI}
 use Rattle.picture.specs.Segment.{segmentAt, lengthChecks}
 use Rattle.picture.proofs.Laws.{at-place}
 use Rattle.slices.specs.Slice.{sliceMarker}

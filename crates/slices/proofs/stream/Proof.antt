@@ -1,5 +1,5 @@
 use Prim.Native.Nat.{_≤_, _-_}
-use mathlib.Core.Path.{_≡_, refl, sym, _∙_}
+use mathlib.Core.Path.{_≡_, refl, _∙_}
 use native.Mathlib.Omega.{arith}
 use denote.Ref.{now}
 use lib.ListN.{length}
@@ -26,8 +26,7 @@ loop-holds c = (begins, c .before .before .before .pre .inside, refl)
 slice-requires : tie.Need-slice-requires Inv-loop μ-loop
 slice-requires c κs =
     let h = c .before .before .before .before .before .before .pre in
-    let l = c .before .before .loop in
-    (
+    let l = c .before .before .loop in (
       record { settled = h .settled; short = h .short; inside = l .inv .1; room = omega (arith, h .room, l .inv .2) },
       omega (arith, c .before .loop-test .taken, c .before .before .before .slice-count .ensures .0),
     )
@@ -45,8 +44,7 @@ loop-again c =
     let l = c .before .before .before .before .before .before .before .loop in
     let a = c .before .before .before .before .before .before .before .before .before .before .before .args in
     let r = c .before .before .before .before .slice in
-    let v = c .enum-told .given .1 in
-    (
+    let v = c .enum-told .given .1 in (
       goes-on (l .inv .0) (omega (arith, c .before .before .before .before .before .before .loop-test .taken, c .before .before .before .before .before .before .before .before .slice-count .ensures .0)) (turned-goes (slice-turned (now (a .s)) (a .c) (l .t) (l .place, l .most, l .cells) (r .ensures)) v),
       r .ensures .inside v,
       r .kept .1 .0 ∙ l .inv .2,

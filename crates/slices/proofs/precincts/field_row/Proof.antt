@@ -24,12 +24,12 @@ returns c =
     let there = c .before .before .before .before .left .ensures in
     c .first .ensures
     ∙ (λ i. first (
-      check Cut (a .p .at) Lprc (there i) 3 ample
-      ∷ check Value (a .p .at) Lprc (c .before .before .before .u24-at .ensures .value i) 1 (2 ^ 20 - 1)
-      ∷ check Length (a .p .at) Lprc (there i) (size i) ample
-      ∷ check Value (a .p .at + 3) Q (is i .q) 0 31
-      ∷ check Value (a .p .at + 4) R (is i .r) 0 (2 * c .before .band-count .ensures .0 i - 1)
-      ∷ []))
+    check Cut (a .p .at) Lprc (there i) 3 ample
+    ∷ check Value (a .p .at) Lprc (c .before .before .before .u24-at .ensures .value i) 1 (2 ^ 20 - 1)
+    ∷ check Length (a .p .at) Lprc (there i) (size i) ample
+    ∷ check Value (a .p .at + 3) Q (is i .q) 0 31
+    ∷ check Value (a .p .at + 4) R (is i .r) 0 (2 * c .before .band-count .ensures .0 i - 1)
+    ∷ []))
 
 pub field-row-spec : {M : Type 1} → statement M
 field-row-spec =

@@ -1,7 +1,6 @@
-use Prim.Native.Nat.{_+_, _*_, _/_, _%_}
-use mathlib.Core.Path.{_≡_, _∙_}
+use Prim.Native.Nat.{_+_, _/_, _%_}
+use mathlib.Core.Path.{_∙_}
 use mathlib.Core.List.{[], _∷_}
-use denote.Ref.{now}
 use Rattle.rows.specs.Rows.{check, first}
 use Rattle.rows.specs.declared.Row.the-variants.{Mode}
 use Rattle.rows.specs.declared.Field.the-variants.{D}

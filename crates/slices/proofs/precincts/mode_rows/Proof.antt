@@ -6,7 +6,7 @@ use denote.Ref.{now}
 use Rattle.rows.specs.Rows.{first, each}
 use Rattle.rows.proofs.Tables.{each-none, each-more}
 use Rattle.layout.specs.Headers.{mode-bit}
-use Rattle.layout.proofs.Sums.{one-most, modes-next}
+use Rattle.layout.proofs.Sums.{modes-next}
 use lib.Dec.{lit≤}
 use Rattle.layout.specs.Bands.{NL, band-exists}
 use Rattle.layout.specs.Headers.{modes}
@@ -47,8 +47,7 @@ loop-again c =
     let a = c .before .before .before .before .before .before .before .before .before .before .args in
     let e = c .before .before .before .band-exists .ensures in
     let two = two-if (band-exists (a .c .shape) (l .b)) (c .choose .ensures ∙ (λ i. cond (e i) 2 0)) in
-    let row = c .before .before .mode-row .ensures ∙ (λ i. first (topCheck (now (a .s)) (a .p .at) (l .inv .1 i) (e i))) in
-    (
+    let row = c .before .before .mode-row .ensures ∙ (λ i. first (topCheck (now (a .s)) (a .p .at) (l .inv .1 i) (e i))) in (
       omega (arith, c .before .before .before .before .loop-test .taken),
       omega (arith, two .0, l .inv .1, modes-next (a .c .shape) (l .b)),
       omega (arith, l .inv .2, two .1),
