@@ -12,10 +12,12 @@ use crate::numbers::size;
 use crate::precincts::Column;
 use crate::precincts::column_of;
 ghost use mathlib.Core.Path.{_≡_};
-ghost use Prim.Native.Nat.{_+_, _*_, _-_, _<_, _≤_, _^_};
-ghost use Rattle.layout.specs.Bands.{Nβ, dy};
+ghost use Prim.Native.Nat.{_+_, _*_, _-_, _/_, _%_, _<_, _≤_, _^_};
+ghost use mathlib.Core.Bool.{_&&_};
+ghost use lib.Dec.{ltb};
+ghost use Rattle.layout.specs.Bands.{Nβ, NL, dy, band-exists};
 ghost use Rattle.layout.specs.Built.{Built};
-ghost use Rattle.layout.specs.Precincts.{Npx, Npy};
+ghost use Rattle.layout.specs.Precincts.{Npx, Npy, lines};
 ghost use Rattle.layout.specs.Cells.{area, samples};
 ghost use Rattle.layout.specs.Slots.{slots, candidates, line, line-at};
 ghost use Rattle.layout.specs.Sizes.{SmallBand, inner-of, IsReach, IsSpan, slot-of};
@@ -173,4 +175,15 @@ pub fn line_at(s: Shape, row: usize, column: usize, k: usize, j: usize) -> Line
     let slot = slot_of(s, k);
     let nc = s.nc;
     line_of(s, row, column, slot.first + j / nc, j % nc, slot.line)
+}
+
+// Whether a row of precincts holds a line of band b.
+pub fn has_lines(s: Shape, row: usize, b: usize) -> bool
+    requires { ⌜ Built s × (row < Npy s) × (b < NL s) ⌝ }
+    ensures { λ r. ⌜ r ≡ (band-exists s b && ltb 0 (lines s row (b / s .nc) (b % s .nc))) ⌝ }
+{
+    let nc = s.nc;
+    let band = band_of(s, b / nc, b % nc);
+    let reach = reach_of(band, row, 0);
+    reach.present
 }

@@ -82,6 +82,7 @@ pub enum Field {
     Lslh,
     Ysl,
     Lprc,
+    Q,
     R,
     D,
     // a packet's header, and its subpackets

@@ -1,0 +1,195 @@
+-- What precincts, slices and the stream leave, for the layers above: where a reading ends, which cells it keeps, and the largest T. Assumes nothing.
+use Prim.Native.Nat.{ℕ, zero, suc, _+_, _≤_, _<_, max}
+use mathlib.Core.Path.{_≡_, refl, _∙_}
+use mathlib.Core.Bool.{Bool, true, false, cond}
+use mathlib.Core.List.{List, [], _∷_}
+use native.Mathlib.Omega.{arith}
+use lib.IntN.{ℤ}
+use lib.ListN.{length, getD, set, length-set}
+use Rattle.whole.specs.Cells.{cell}
+use Rattle.loops.specs.Run.{Turn, go}
+use Rattle.loops.proofs.Laws.{Kept, run-keeps}
+use Rattle.rows.specs.Rows.{first}
+use Rattle.rows.proofs.Tables.{held}
+use Rattle.rows.specs.declared.Verdict.{Verdict}
+use Rattle.rows.specs.declared.Verdict.the-variants.{Fine, Refused}
+use Rattle.layout.specs.Built.{Built}
+use Rattle.layout.specs.Bands.{NL}
+use Rattle.layout.specs.Precincts.{Npx, Npy, Np, slices}
+use Rattle.layout.specs.Cells.{start}
+use Rattle.layout.specs.Slots.{slots, candidates}
+use Rattle.packets.specs.declared.Setting.{Setting}
+use Rattle.packets.specs.declared.Precinct.{Precinct}
+use Rattle.packets.specs.Precincts.{T}
+use Rattle.packets.specs.Ready.{Settled}
+use Rattle.packets.specs.Packets.{anyLine, packet}
+use Rattle.packets.proofs.Laws.{packet-length, packet-behind}
+use Rattle.packets.proofs.LinePasses.{T-most}
+use Rattle.slices.specs.Precinct.{precinctAt, headerChecks, body, noFlags, Packing, packed, packetTurn, restChecks, packets, packetsBy, precinct, holds, raisedBy, raised}
+use Rattle.slices.specs.Slice.{State, Left, rowOf, columnOf, isTop, sliceChecks, placed, precinctTurn, precincts, precinctsBy, slice}
+use Rattle.slices.specs.Stream.{endChecks, sliced, sliceTurn, ended, stream}
+use Rattle.slices.proofs.PrecinctLaws.{clash}
+use Rattle.slices.proofs.SliceLaws.{row-inside, column-inside}
+
+-- ---- what each packet keeps, a precinct, a slice and the stream keep
+
+module _ (s : List ℕ) (c : Setting) (P : List ℤ → Type 0) where
+  module _ (row column at : ℕ) (kept : (slot place : ℕ) (raws : List ℕ) (cells : List ℤ) → slot < slots (c .shape) → P cells → P (packet s c (precinctAt s c row column at) slot place raws cells .1)) where
+    packed-keeps : (slot place : ℕ) (raws : List ℕ) (x : Verdict × List ℤ) → P (x .1) → Kept (λ (y : Packing s c row column at). P (y .2)) (λ (r : Verdict × List ℤ). P (r .1)) (packed s c row column at slot place raws x)
+    packed-keeps slot place raws (Fine, cells) h = h
+    packed-keeps slot place raws (Refused k, cells) h = h
+
+    packet-turn-keeps : (slot : ℕ) (x : Packing s c row column at) → slot < slots (c .shape) → P (x .2) → Kept (λ (y : Packing s c row column at). P (y .2)) (λ (r : Verdict × List ℤ). P (r .1)) (packetTurn s c row column at slot x)
+    unfolding packetTurn
+    packet-turn-keeps slot x l h = by (anyLine c (precinctAt s c row column at) slot (candidates (c .shape) slot))
+      where
+        by : (any : Bool) → Kept (λ (y : Packing s c row column at). P (y .2)) (λ (r : Verdict × List ℤ). P (r .1)) (cond any (packed s c row column at slot (x .0) (x .1) (packet s c (precinctAt s c row column at) slot (x .0) (x .1) (x .2))) (go x))
+        by true = packed-keeps slot (x .0) (x .1) (packet s c (precinctAt s c row column at) slot (x .0) (x .1) (x .2)) (kept slot (x .0) (x .1) (x .2) l h)
+        by false = h
+
+    pub precinct-keeps : (top : Bool) (cells : List ℤ) → P cells → P (precinct s c row column at top cells .1)
+    unfolding precinct packets
+    precinct-keeps top cells h = by (first (headerChecks s c row column at top))
+      where
+        by : (v : Verdict) → P (packetsBy s c row column at v cells .1)
+        by Fine =
+            run-keeps (λ (x : Packing s c row column at). P (x .2)) (λ (r : Verdict × List ℤ). P (r .1)) (packetTurn s c row column at) (λ x. (first (restChecks s c row column at (x .0)), x .2))
+            (slots (c .shape)) (λ x p. p) (λ g x l p. packet-turn-keeps g x l p) (slots (c .shape)) 0 (body s c row column at, noFlags s c row column at, cells) (omega arith) h
+        by (Refused k) = h
+
+  module _ (built : Built (c .shape))
+      (kept : (row column at slot place : ℕ) (raws : List ℕ) (cells : List ℤ) → row < Npy (c .shape) → column < Npx (c .shape) → slot < slots (c .shape)
+      → P cells → P (packet s c (precinctAt s c row column at) slot place raws cells .1)) where
+    abbrev KeptHere : Turn State Left → Type 0
+    KeptHere u = Kept (λ (y : State). P (y .2)) (λ (r : Left). P (r .1 .2)) u
+
+    placed-keeps : (t n : ℕ) (x : State) (y : Verdict × List ℤ) → P (y .1) → KeptHere (placed s c t n x y)
+    placed-keeps t n x (Fine, cells) h = h
+    placed-keeps t n x (Refused k, cells) h = h
+
+    precinct-turn-keeps : (t : ℕ) → t < slices (c .shape) → (n : ℕ) (x : State) → n < Np (c .shape) t → P (x .2) → KeptHere (precinctTurn s c t n x)
+    unfolding precinctTurn
+    precinct-turn-keeps t l n x k h =
+        placed-keeps t n x (precinct s c (rowOf s c t n) (columnOf s c t n) (x .0) (isTop s c t n) (x .2))
+        (precinct-keeps (rowOf s c t n) (columnOf s c t n) (x .0)
+        (λ slot place raws cells. kept (rowOf s c t n) (columnOf s c t n) (x .0) slot place raws cells (row-inside (c .shape) built t l n k) (column-inside (c .shape) built t l n k))
+        (isTop s c t n) (x .2) h)
+
+    pub slice-keeps : (t : ℕ) → t < slices (c .shape) → (x : State) → P (x .2) → P (slice s c t x .1 .2)
+    unfolding slice precincts
+    slice-keeps t l x h = by (first (sliceChecks s t (x .0)))
+      where
+        by : (v : Verdict) → P (precinctsBy s c t v x .1 .2)
+        by Fine =
+            run-keeps (λ (y : State). P (y .2)) (λ (r : Left). P (r .1 .2)) (precinctTurn s c t) (λ y. (Fine, y)) (Np (c .shape) t) (λ y p. p)
+            (λ n y k p. precinct-turn-keeps t l n y k p) (Np (c .shape) t) 0 (x .0 + 6, x .1, x .2) (omega arith) h
+        by (Refused k) = h
+
+    sliced-keeps : (y : Left) → P (y .1 .2) → KeptHere (sliced y)
+    sliced-keeps (Fine, x) h = h
+    sliced-keeps (Refused k, x) h = h
+
+    pub stream-keeps : (x : State) → P (x .2) → P (stream s c x .1 .2)
+    unfolding stream sliceTurn
+    stream-keeps x h =
+        run-keeps (λ (y : State). P (y .2)) (λ (r : Left). P (r .1 .2)) (sliceTurn s c) (ended s) (slices (c .shape)) (λ y p. p)
+        (λ t y l p. sliced-keeps (slice s c t y) (slice-keeps t l y p)) (slices (c .shape)) 0 x (omega arith) h
+
+-- ---- the cells: as many as before, and none changed behind those of the components
+
+module _ (s : List ℕ) (c : Setting) (settled : Settled c) where
+  pub slice-length : (t : ℕ) → t < slices (c .shape) → (x : State) → length (slice s c t x .1 .2) ≡ length (x .2)
+  slice-length t l x =
+      slice-keeps s c (λ z. length z ≡ length (x .2)) (settled .shape)
+      (λ row column at slot place raws cells r k j e. packet-length s c (precinctAt s c row column at) slot place raws cells ∙ e) t l x refl
+
+  pub stream-length : (x : State) → length (stream s c x .1 .2) ≡ length (x .2)
+  stream-length x =
+      stream-keeps s c (λ z. length z ≡ length (x .2)) (settled .shape)
+      (λ row column at slot place raws cells r k j e. packet-length s c (precinctAt s c row column at) slot place raws cells ∙ e) x refl
+
+  module _ (n : ℕ) (h : start (c .shape) (c .shape .nc) ≤ n) where
+    behind-kept : (z : ℤ) (row column at slot place : ℕ) (raws : List ℕ) (cells : List ℤ) → row < Npy (c .shape) → column < Npx (c .shape) → slot < slots (c .shape)
+        → cell cells n ≡ z → cell (packet s c (precinctAt s c row column at) slot place raws cells .1) n ≡ z
+    behind-kept z row column at slot place raws cells r k j e =
+        packet-behind s c (precinctAt s c row column at) slot place raws cells (record { settled = settled; row = r; column = k; which = j }) n h ∙ e
+
+    pub slice-behind : (t : ℕ) → t < slices (c .shape) → (x : State) → cell (slice s c t x .1 .2) n ≡ cell (x .2) n
+    slice-behind t l x = slice-keeps s c (λ z. cell z n ≡ cell (x .2) n) (settled .shape) (behind-kept (cell (x .2) n)) t l x refl
+
+    pub stream-behind : (x : State) → cell (stream s c x .1 .2) n ≡ cell (x .2) n
+    stream-behind x = stream-keeps s c (λ z. cell z n ≡ cell (x .2) n) (settled .shape) (behind-kept (cell (x .2) n)) x refl
+
+-- ---- where an accepted reading ends
+
+pub stream-ends : (s : List ℕ) (c : Setting) (x : State) → stream s c x .0 ≡ Fine → stream s c x .1 .0 ≡ length s
+unfolding stream sliceTurn
+stream-ends s c x =
+    run-keeps (λ (y : State). Unit {0}) (λ (r : Left). r .0 ≡ Fine → r .1 .0 ≡ length s) (sliceTurn s c) (ended s) (slices (c .shape)) (λ y p e. at-end y e) (λ t y l p. refuses (slice s c t y)) (slices (c .shape)) 0 x (omega arith) tt
+  where
+    at-end : (y : State) → first (endChecks s (y .0)) ≡ Fine → y .0 + 2 ≡ length s
+    at-end y e =
+        let h = held (endChecks s (y .0)) e in
+        omega (arith, h .0 .least, h .1 .1 .0 .most)
+
+    refuses : (l : Left) → Kept (λ (y : State). Unit {0}) (λ (r : Left). r .0 ≡ Fine → r .1 .0 ≡ length s) (sliced l)
+    refuses (Fine, z) = tt
+    refuses (Refused k, z) = λ e. clash e
+
+-- ---- the largest T: none is above 31
+
+abbrev pub Few : List ℕ → Type 0
+Few tops = (b : ℕ) → getD tops b 0 ≤ 31
+
+set-few : (l : List ℕ) (i : ℕ) {v : ℕ} → v ≤ 31 → Few l → Few (set l i v)
+set-few [] i k h b = h b
+set-few (x ∷ xs) zero k h zero = k
+set-few (x ∷ xs) zero k h (suc b) = h (suc b)
+set-few (x ∷ xs) (suc i) k h zero = h zero
+set-few (x ∷ xs) (suc i) k h (suc b) = set-few xs i k (λ j. h (suc j)) b
+
+module _ (c : Setting) (p : Precinct) (settled : Settled c) where
+  raised-by-most : (b top : ℕ) → top ≤ 31 → raisedBy c p b top ≤ 31
+  raised-by-most b top h = by (holds c p b)
+    where
+      by : (e : Bool) → cond e (max top (T c p b)) top ≤ 31
+      by true = omega (arith, T-most c p b settled)
+      by false = h
+
+  pub raised-length : (n : ℕ) (tops : List ℕ) → length (raised c p n tops) ≡ length tops
+  unfolding raised
+  raised-length zero tops = refl
+  raised-length (suc n) tops = length-set (raised c p n tops) n (raisedBy c p n (getD tops n 0)) ∙ raised-length n tops
+
+  pub raised-most : (n : ℕ) (tops : List ℕ) → Few tops → Few (raised c p n tops)
+  unfolding raised
+  raised-most zero tops h = h
+  raised-most (suc n) tops h = set-few (raised c p n tops) n (raised-by-most n (getD tops n 0) (h n)) (raised-most n tops h)
+
+module _ (s : List ℕ) (c : Setting) (settled : Settled c) where
+  abbrev FewHere : Turn State Left → Type 0
+  FewHere u = Kept (λ (y : State). Few (y .1)) (λ (r : Left). Few (r .1 .1)) u
+
+  placed-few : (t n : ℕ) (x : State) (y : Verdict × List ℤ) → Few (x .1) → FewHere (placed s c t n x y)
+  placed-few t n x (Fine, cells) h = raised-most c (precinctAt s c (rowOf s c t n) (columnOf s c t n) (x .0)) settled (NL (c .shape)) (x .1) h
+  placed-few t n x (Refused k, cells) h = h
+
+  pub slice-few : (t : ℕ) (x : State) → Few (x .1) → Few (slice s c t x .1 .1)
+  unfolding slice precincts precinctTurn
+  slice-few t x h = by (first (sliceChecks s t (x .0)))
+    where
+      by : (v : Verdict) → Few (precinctsBy s c t v x .1 .1)
+      by Fine =
+          run-keeps (λ (y : State). Few (y .1)) (λ (r : Left). Few (r .1 .1)) (precinctTurn s c t) (λ y. (Fine, y)) (Np (c .shape) t) (λ y p. p)
+          (λ n y k p. placed-few t n y (precinct s c (rowOf s c t n) (columnOf s c t n) (y .0) (isTop s c t n) (y .2)) p) (Np (c .shape) t) 0 (x .0 + 6, x .1, x .2) (omega arith) h
+      by (Refused k) = h
+
+  sliced-few : (y : Left) → Few (y .1 .1) → FewHere (sliced y)
+  sliced-few (Fine, x) h = h
+  sliced-few (Refused k, x) h = h
+
+  pub stream-few : (x : State) → Few (x .1) → Few (stream s c x .1 .1)
+  unfolding stream sliceTurn
+  stream-few x h =
+      run-keeps (λ (y : State). Few (y .1)) (λ (r : Left). Few (r .1 .1)) (sliceTurn s c) (ended s) (slices (c .shape)) (λ y p. p)
+      (λ t y l p. sliced-few (slice s c t y) (slice-few t y p)) (slices (c .shape)) 0 x (omega arith) h

@@ -1,0 +1,5 @@
+-- Annex A's slices and Annex C's precincts: from the first slice header to the end marker.
+pub mod Precinct
+pub mod Slice
+pub mod Stream
+pub mod Steps
