@@ -1,5 +1,5 @@
 // Annex B of the standard: bands, precincts, the lines of each packet, and where each coefficient lies.
-mod bands;
+pub mod bands;
 pub mod headers;
 pub mod lines;
 mod numbers;

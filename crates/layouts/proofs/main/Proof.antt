@@ -1,27 +1,27 @@
--- `layouts::main` meets its contract: each picture is built, by tests that compute. Assumes nothing.
-use mathlib.Core.Path.{refl}
+-- `layouts::main` meets its contract. Assumes what libc and os declare of the system.
+use Prim.Native.Nat.{_≤_, _-_}
 use borrow.Author.Needs.{needs}
-use Rattle.layout.specs.Bands.{Wc, Hc}
-use Rattle.layout.specs.Precincts.{largest}
-use Rattle.layouts.proofs.Builds.{all, every, builds}
 use Rattle.layouts.proofs.main.Statement.{statement}
 use Rattle.layouts.proofs.main.Tie as tie
 
+abbrev Inv-loop : tie.InvT-loop
+Inv-loop count i₀ i =
+    1 ≤ i
+
+abbrev μ-loop : tie.MeasureT-loop
+μ-loop count i₀ i =
+    count - i
+
 pub main-spec : {M : Type 1} → statement M
-unfolding all every Wc Hc largest
 main-spec =
     tie.close
     (tie.spec
-    (λ c κs. builds _ refl)
-    (λ c κs. builds _ refl)
-    (λ c κs. builds _ refl)
-    (λ c κs. builds _ refl)
-    (λ c κs. builds _ refl)
-    (λ c κs. builds _ refl)
-    (λ c κs. builds _ refl)
-    (λ c κs. builds _ refl)
-    (λ c κs. builds _ refl)
-    (λ c κs. builds _ refl)
-    (λ c κs. builds _ refl)
-    (λ c κs. builds _ refl)
+    Inv-loop
+    μ-loop
+    (λ c κs. search needs)
+    (λ c. search needs)
+    (λ c κs. search needs)
+    (λ c. search needs)
+    (λ c. search needs)
+    (λ c. search needs)
     (λ c. search needs))

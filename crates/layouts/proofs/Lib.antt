@@ -1,2 +1,0 @@
--- Laws of the pictures that are printed.
-pub mod Builds
