@@ -2,11 +2,15 @@
 use mathlib.Core.Path.{_≡_, refl, ap, _∙_}
 use mathlib.Core.Bool.{Bool, true, false, cond}
 use mathlib.Core.List.{List, _++_}
-use Prim.Native.Nat.{ℕ, _+_, _-_, _*_, _≤_, _<_}
+use Prim.Native.Nat.{ℕ, zero, suc, _+_, _-_, _*_, _^_, _≤_, _<_}
 use native.Mathlib.Omega.{arith}
-use lib.IntN.{ℤ}
-use lib.ListN.{length}
-use Rattle.whole.specs.Cells.{cell}
+use borrow.Author.Tests.{eqb-true, eqb-false}
+use lib.Dec.{eqb}
+use lib.Pow.{pow-mono}
+use lib.Seq.{getD-set-same, getD-set-other}
+use lib.IntN.{ℤ, pos, natAbs}
+use lib.ListN.{length, set, length-set}
+use Rattle.whole.specs.Cells.{cell, Bounded}
 use Rattle.loops.specs.Run.{Turn, go, run}
 use Rattle.loops.proofs.Laws.{Kept, run-keeps}
 use Rattle.rows.specs.Rows.{first}
@@ -21,22 +25,24 @@ use Rattle.counts.specs.declared.group.Coding.{Coding}
 use Rattle.counts.specs.declared.Line.{Line as Counted}
 use Rattle.counts.specs.declared.Line.the-variants.{Done, Cut, High}
 use Rattle.counts.specs.Lines.{lineCounts}
-use Rattle.counts.proofs.Laws.{line-length as counts-length, line-other as counts-other}
+use Rattle.counts.proofs.Laws.{line-keeps, line-length as counts-length, line-other as counts-other}
 use Rattle.values.specs.declared.Next.{Next}
-use Rattle.values.specs.Line.{lineValues}
-use Rattle.values.proofs.Laws.{line-length as values-length, line-other as values-other}
+use Rattle.values.specs.Line.{placed, valueAt, lineValues}
+use Rattle.values.proofs.Laws.{value-small, line-length as values-length, line-other as values-other}
 use Rattle.packets.specs.declared.Setting.{Setting}
 use Rattle.packets.specs.declared.Precinct.{Precinct}
+use Rattle.packets.specs.Ready.{Settled, Slotted}
+use Rattle.packets.specs.Precincts.{T}
 use Rattle.packets.specs.Passes.{line, marks, codingOf, placeOf, Counting, counted, countTurn, packetCounts, valuesOf, valued, valueTurn, packetValues}
 use Rattle.packets.specs.Packets.{past, datAt, headChecks, countChecks, dataChecks, valuesBy, afterCounts, countsBy, packet}
-use Rattle.packets.specs.Ready.{Slotted}
 use Rattle.packets.specs.Steps.{countsOf}
+use Rattle.packets.proofs.LinePasses.{T-most}
 use Rattle.packets.proofs.Lines.{lies}
 use Rattle.packets.proofs.Stretches.{head-inside}
 
 -- ---- where a packet ends
 
-clash : {A : Type 0} {k : Check} → Refused k ≡ Fine → A
+pub clash : {A : Type 0} {k : Check} → Refused k ≡ Fine → A
 clash e = let z : _≡_ {A = ℕ} 0 1 = cc in absurd (omega arith)
 
 module _ (s : List ℕ) (c : Setting) (p : Precinct) (slot at : ℕ) where
@@ -72,7 +78,7 @@ module _ (s : List ℕ) (c : Setting) (p : Precinct) (slot at : ℕ) where
 
 module _ (c : Setting) (p : Precinct) (slot : ℕ) (P : List ℤ → Type 0)
     (counts : (j : ℕ) → j < candidates (c .shape) slot → line c p slot j .present ≡ true
-    → (cnt sig : List ℕ) (k : Coding) (i z : ℕ) (cells : List ℤ) → P cells → P (lineCounts cnt sig k (placeOf (line c p slot j)) i z cells .1))
+    → (cnt sig : List ℕ) (k : Coding) → k .t ≡ T c p (line c p slot j .band) → (i z : ℕ) (cells : List ℤ) → P cells → P (lineCounts cnt sig k (placeOf (line c p slot j)) i z cells .1))
     (values : (j : ℕ) → j < candidates (c .shape) slot → line c p slot j .present ≡ true
     → (dat sgn : List ℕ) (from : Next) (cells : List ℤ) → P cells → P (lineValues dat sgn (valuesOf c) (valued c p (line c p slot j)) from cells .1)) where
   counted-keeps : (need : ℕ) (x : Counted × List ℤ) → P (x .1) → Kept (λ (x : Counting). P (x .2)) (λ (x : Counted × List ℤ). P (x .1)) (counted need x)
@@ -80,7 +86,7 @@ module _ (c : Setting) (p : Precinct) (slot : ℕ) (P : List ℤ → Type 0)
   counted-keeps need (Cut, cells) h = h
   counted-keeps need (High, cells) h = h
 
-  counts-keep : (s cnt sig : List ℕ) (raw : Bool) (cells : List ℤ) → P cells → P (packetCounts s c p slot cnt sig raw cells .1)
+  pub counts-keep : (s cnt sig : List ℕ) (raw : Bool) (cells : List ℤ) → P cells → P (packetCounts s c p slot cnt sig raw cells .1)
   unfolding packetCounts countTurn
   counts-keep s cnt sig raw cells h =
       run-keeps (λ (x : Counting). P (x .2)) (λ (x : Counted × List ℤ). P (x .1)) (countTurn s c p slot cnt sig raw) _ (candidates (c .shape) slot)
@@ -91,7 +97,7 @@ module _ (c : Setting) (p : Precinct) (slot : ℕ) (P : List ℤ → Type 0)
           (cond b (counted (x .1) (lineCounts cnt sig (codingOf s c p raw (line c p slot j .band)) (placeOf (line c p slot j)) (x .0) (marks s c p slot raw j) (x .2))) (go x))
       pick j x l k true e =
           let code = codingOf s c p raw (line c p slot j .band) in
-          counted-keeps (x .1) (lineCounts cnt sig code (placeOf (line c p slot j)) (x .0) (marks s c p slot raw j) (x .2)) (counts j l e cnt sig code (x .0) (marks s c p slot raw j) (x .2) k)
+          counted-keeps (x .1) (lineCounts cnt sig code (placeOf (line c p slot j)) (x .0) (marks s c p slot raw j) (x .2)) (counts j l e cnt sig code refl (x .0) (marks s c p slot raw j) (x .2) k)
       pick j x l k false e = k
 
   values-keep : (dat sgn : List ℕ) (cells : List ℤ) → P cells → P (packetValues c p slot dat sgn cells .1)
@@ -131,7 +137,7 @@ module _ (s : List ℕ) (c : Setting) (p : Precinct) (slot at : ℕ) (raws : Lis
   pub packet-length : length (packet s c p slot at raws cells .1) ≡ length cells
   packet-length =
       packet-keeps c p slot (λ l. length l ≡ length cells)
-      (λ j h e cnt sig k i z l q. counts-length cnt sig k (placeOf (line c p slot j)) i z l ∙ q)
+      (λ j h e cnt sig k t i z l q. counts-length cnt sig k (placeOf (line c p slot j)) i z l ∙ q)
       (λ j h e dat sgn from l q. values-length dat sgn (valuesOf c) (valued c p (line c p slot j)) from l refl ∙ q)
       s at raws cells refl
 
@@ -140,7 +146,7 @@ module _ (s : List ℕ) (c : Setting) (p : Precinct) (slot at : ℕ) (raws : Lis
       → cell (packet s c p slot at raws cells .1) n ≡ cell cells n
   packet-other n apart =
       packet-keeps c p slot (λ l. cell l n ≡ cell cells n)
-      (λ j h e cnt sig k i z l q. counts-other cnt sig k (placeOf (line c p slot j)) i z l n (λ g f. apart j h e .count (4 * g) (omega arith)) ∙ q)
+      (λ j h e cnt sig k t i z l q. counts-other cnt sig k (placeOf (line c p slot j)) i z l n (λ g f. apart j h e .count (4 * g) (omega arith)) ∙ q)
       (λ j h e dat sgn from l q. values-other dat sgn (valuesOf c) (valued c p (line c p slot j)) from l refl n (apart j h e .coefficient) ∙ q)
       s at raws cells refl
 
@@ -151,3 +157,38 @@ module _ (s : List ℕ) (c : Setting) (p : Precinct) (slot at : ℕ) (raws : Lis
         coefficient = λ x l q. omega (arith, lies c p slot j h f e .inside x l);
         count = λ x l q. omega (arith, lies c p slot j h f e .inside x l);
       })
+
+-- ---- the size of what the cells hold
+
+bounded-set : {B : ℕ} {l : List ℤ} (a : ℕ) (v : ℤ) → Bounded B l → natAbs v ≤ B → Bounded B (set l a v)
+bounded-set {B} {l} a v h k = record { most = λ j i. pick j (omega (arith, i, length-set l a v)) (eqb j a) refl }
+  where
+    pick : (j : ℕ) → j < length l → (b : Bool) → eqb j a ≡ b → natAbs (cell (set l a v) j) ≤ B
+    pick j i true e =
+        let q = eqb-true j a e in
+        rw (q, getD-set-same l a v (pos 0) (rw q at i)) k
+    pick j i false e = rw (getD-set-other l a j v (pos 0) (eqb-false j a e)) (h .most j i)
+
+placed-keeps : (P : List ℤ → Type 0) (first stride : ℕ) (f : ℕ → ℤ) → ((x : ℕ) (l : List ℤ) → P l → P (set l (first + x * stride) (f x)))
+    → (n : ℕ) (cells : List ℤ) → P cells → P (placed first stride f n cells)
+unfolding placed
+placed-keeps P first stride f each zero cells h = h
+placed-keeps P first stride f each (suc n) cells h = each n _ (placed-keeps P first stride f each n cells h)
+
+values-bounded : (c : Setting) (p : Precinct) (l : Line) (dat sgn : List ℕ) (from : Next) (cells : List ℤ) {B : ℕ} → 2 ^ (31 + c .fq) ≤ B → Bounded B cells
+    → Bounded B (lineValues dat sgn (valuesOf c) (valued c p l) from cells .1)
+unfolding lineValues
+values-bounded c p l dat sgn from cells {B} h k =
+    placed-keeps (Bounded B) (l .cell) (l .stride) (valueAt dat sgn (valuesOf c) (valued c p l) from cells)
+    (λ x l′ q. bounded-set _ _ q (omega (arith, h, value-small dat sgn (valuesOf c) (valued c p l) from cells x {F = c .fq} (omega arith)))) (l .width) cells k
+
+-- counts and coefficients are small
+pub packet-bounded : (s : List ℕ) (c : Setting) (p : Precinct) (slot at : ℕ) (raws : List ℕ) (cells : List ℤ) {B : ℕ} → Settled c → 2 ^ (31 + c .fq) ≤ B
+    → Bounded B cells → Bounded B (packet s c p slot at raws cells .1)
+packet-bounded s c p slot at raws cells {B} settled h =
+    packet-keeps c p slot (Bounded B)
+    (λ j f e cnt sig k t i z l q.
+    line-keeps cnt sig k (placeOf (line c p slot j)) i z l (Bounded B)
+    (λ g m l′ u v w. bounded-set _ _ w (omega (arith, h, v, t, T-most c p (line c p slot j .band) settled, pow-mono {i = 31} {j = 31 + c .fq} (omega arith)))) q)
+    (λ j f e dat sgn from l q. values-bounded c p (line c p slot j) dat sgn from l h q)
+    s at raws cells

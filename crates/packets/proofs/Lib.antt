@@ -3,3 +3,5 @@ pub mod Lines
 pub mod LinePasses
 pub mod Stretches
 pub mod Laws
+pub mod Coefficients
+pub mod Examples

@@ -12,8 +12,8 @@ use lib.Dec.{eqb}
 use lib.IntN.{ℤ}
 use lib.ListN.{getD}
 use lib.Pow.{pow-mono}
-use Rattle.bits.specs.Fields.{field, IsField}
 use Rattle.loops.specs.Run.{Turn, go}
+use Rattle.bits.specs.Fields.{field, IsField}
 use Rattle.layout.specs.declared.Line.{Line}
 use Rattle.layout.specs.Headers.{mode-bit, truncation}
 use Rattle.layout.specs.Cells.{start}

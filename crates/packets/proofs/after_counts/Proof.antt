@@ -1,13 +1,13 @@
 -- `packets::after_counts` meets its contract. Assumes nothing.
-use native.Mathlib.Omega.{arith}
-use denote.Ref.{now}
 use mathlib.Core.Path.{_≡_, sym, ap, _∙_}
-use Rattle.packets.proofs.Stretches.{done-table, done-inside, after-cut, after-high}
-use Rattle.rows.specs.declared.Verdict.{Verdict}
-use Rattle.packets.specs.Packets.{countChecks, dataChecks, valuesBy}
-use Rattle.rows.specs.Rows.{first}
 use mathlib.Core.List.{_++_}
+use native.Mathlib.Omega.{arith}
 use borrow.Author.Needs.{needs}
+use denote.Ref.{now}
+use Rattle.rows.specs.declared.Verdict.{Verdict}
+use Rattle.rows.specs.Rows.{first}
+use Rattle.packets.specs.Packets.{countChecks, dataChecks, valuesBy}
+use Rattle.packets.proofs.Stretches.{done-table, done-inside, after-cut, after-high}
 use Rattle.packets.proofs.after_counts.Statement.{statement}
 use Rattle.packets.proofs.after_counts.Tie as tie
 

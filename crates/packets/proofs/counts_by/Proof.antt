@@ -1,10 +1,10 @@
 -- `packets::counts_by` meets its contract. Assumes nothing.
-use denote.Ref.{now}
 use mathlib.Core.Path.{ap, _∙_}
-use Rattle.packets.proofs.Stretches.{working-still, counts-stand}
+use borrow.Author.Needs.{needs}
+use denote.Ref.{now}
 use Rattle.rows.specs.declared.Verdict.{Verdict}
 use Rattle.packets.specs.Packets.{afterCounts, countsBy}
-use borrow.Author.Needs.{needs}
+use Rattle.packets.proofs.Stretches.{working-still, counts-stand}
 use Rattle.packets.proofs.counts_by.Statement.{statement}
 use Rattle.packets.proofs.counts_by.Tie as tie
 

@@ -1,7 +1,7 @@
 -- `packets::counts_of` meets its contract. Assumes nothing.
+use borrow.Author.Needs.{needs}
 use denote.Ref.{now}
 use Rattle.packets.proofs.Stretches.{counts-are}
-use borrow.Author.Needs.{needs}
 use Rattle.packets.proofs.counts_of.Statement.{statement}
 use Rattle.packets.proofs.counts_of.Tie as tie
 

@@ -1,10 +1,10 @@
 -- `packets::open` meets its contract. Assumes nothing.
-use native.Mathlib.Omega.{arith}
-use denote.Ref.{now}
 use mathlib.Core.Path.{sym, ap, _∙_}
-use Rattle.packets.proofs.Stretches.{head-table, head-inside}
-use Rattle.layout.proofs.Slots.{slots-most}
+use native.Mathlib.Omega.{arith}
 use borrow.Author.Needs.{needs}
+use denote.Ref.{now}
+use Rattle.layout.proofs.Slots.{slots-most}
+use Rattle.packets.proofs.Stretches.{head-table, head-inside}
 use Rattle.packets.proofs.open.Statement.{statement}
 use Rattle.packets.proofs.open.Tie as tie
 
@@ -28,9 +28,9 @@ returns c =
     let header = c .before .before .before .before .before .before .before .before .before .before .read .ensures .header in
     let parts = c .before .before .before .before .before .before .before .before .before .parts-of .ensures in
     let verdict =
-        head-table (now (a .s)) (a .c) (a .p) (a .slot) (a .at) header parts (a .raws) (c .before .before .before .bytes .ensures)
-        (c .before .before .before .before .before .before .before .before .bound-flag .ensures) (c .before .before .before .before .before .before .before .bound-flag2 .ensures) (c .before .before .before .before .before .before .choose .ensures)
-        (c .before .before .less .ensures) (c .before .less2 .ensures) (c .first .ensures) in
+    head-table (now (a .s)) (a .c) (a .p) (a .slot) (a .at) header parts (a .raws) (c .before .before .before .bytes .ensures)
+    (c .before .before .before .before .before .before .before .before .bound-flag .ensures) (c .before .before .before .before .before .before .before .bound-flag2 .ensures) (c .before .before .before .before .before .before .choose .ensures)
+    (c .before .before .less .ensures) (c .before .less2 .ensures) (c .first .ensures) in
     record {
       verdict = verdict;
       dr = λ i. header i .dr;

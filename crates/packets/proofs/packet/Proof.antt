@@ -1,10 +1,10 @@
 -- `packets::packet` meets its contract. Assumes nothing.
-use denote.Ref.{now}
 use mathlib.Core.Path.{sym, _∙_}
-use Rattle.packets.proofs.Stretches.{parts-own}
+use borrow.Author.Needs.{needs}
+use denote.Ref.{now}
 use Rattle.packets.specs.Packets.{countsBy, packet}
 use Rattle.packets.specs.Steps.{Within}
-use borrow.Author.Needs.{needs}
+use Rattle.packets.proofs.Stretches.{parts-own}
 use Rattle.packets.proofs.packet.Statement.{statement}
 use Rattle.packets.proofs.packet.Tie as tie
 

@@ -1,9 +1,9 @@
 -- `packets::parts_of` meets its contract. Assumes nothing.
 use Prim.Native.Nat.{_+_, _<_, _^_}
 use native.Mathlib.Omega.{arith}
+use borrow.Author.Needs.{needs}
 use denote.Ref.{now}
 use Rattle.packets.proofs.Stretches.{chosen-most, parts-are}
-use borrow.Author.Needs.{needs}
 use Rattle.packets.proofs.parts_of.Statement.{statement}
 use Rattle.packets.proofs.parts_of.Tie as tie
 

@@ -1,7 +1,7 @@
 -- `packets::values` meets its contract. Assumes nothing.
+use borrow.Author.Needs.{needs}
 use denote.Ref.{now}
 use Rattle.packets.proofs.Stretches.{values-are}
-use borrow.Author.Needs.{needs}
 use Rattle.packets.proofs.values.Statement.{statement}
 use Rattle.packets.proofs.values.Tie as tie
 

@@ -1,10 +1,10 @@
 -- `packets::values_by` meets its contract. Assumes nothing.
-use denote.Ref.{now}
 use mathlib.Core.Path.{ap, _∙_}
-use Rattle.packets.proofs.Stretches.{values-stand}
+use borrow.Author.Needs.{needs}
+use denote.Ref.{now}
 use Rattle.rows.specs.declared.Verdict.{Verdict}
 use Rattle.packets.specs.Packets.{valuesBy}
-use borrow.Author.Needs.{needs}
+use Rattle.packets.proofs.Stretches.{values-stand}
 use Rattle.packets.proofs.values_by.Statement.{statement}
 use Rattle.packets.proofs.values_by.Tie as tie
 

@@ -1,8 +1,8 @@
 -- `packets::bands::mode_of` meets its contract. Assumes nothing.
-use Rattle.layout.proofs.Sums.{bands-most}
 use native.Mathlib.Omega.{arith}
-use Rattle.packets.proofs.LinePasses.{mode-is}
 use borrow.Author.Needs.{needs}
+use Rattle.layout.proofs.Sums.{bands-most}
+use Rattle.packets.proofs.LinePasses.{mode-is}
 use Rattle.packets.proofs.bands.mode_of.Statement.{statement}
 use Rattle.packets.proofs.bands.mode_of.Tie as tie
 

@@ -1,7 +1,7 @@
 -- `packets::bands::truncation_of` meets its contract. Assumes nothing.
 use native.Mathlib.Omega.{arith}
-use Rattle.packets.proofs.LinePasses.{truncation-is}
 use Rattle.layout.proofs.Sums.{bands-most}
+use Rattle.packets.proofs.LinePasses.{truncation-is}
 use Rattle.packets.proofs.bands.truncation_of.Statement.{statement}
 use Rattle.packets.proofs.bands.truncation_of.Tie as tie
 

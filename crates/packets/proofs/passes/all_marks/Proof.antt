@@ -1,12 +1,12 @@
 -- `packets::passes::all_marks` meets its contract. Assumes nothing.
-use Prim.Native.Nat.{_≤_, _-_, _*_, _^_}
 use mathlib.Core.Path.{_≡_, ap}
+use Prim.Native.Nat.{_≤_, _-_, _*_, _^_}
 use native.Mathlib.Omega.{arith}
+use borrow.Author.Needs.{needs}
 use Rattle.layout.specs.Slots.{candidates}
+use Rattle.packets.specs.Passes.{marks}
 use Rattle.packets.proofs.Lines.{lies-read}
 use Rattle.packets.proofs.LinePasses.{marks-none, marks-more}
-use Rattle.packets.specs.Passes.{marks}
-use borrow.Author.Needs.{needs}
 use Rattle.packets.proofs.passes.all_marks.Statement.{statement}
 use Rattle.packets.proofs.passes.all_marks.Tie as tie
 

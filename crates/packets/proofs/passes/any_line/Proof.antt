@@ -1,13 +1,13 @@
 -- `packets::passes::any_line` meets its contract. Assumes nothing.
-use Prim.Native.Nat.{_≤_, _-_}
 use mathlib.Core.Path.{_≡_, sym, ap, _∙_}
 use mathlib.Core.Bool.{false}
+use Prim.Native.Nat.{_≤_, _-_}
 use native.Mathlib.Omega.{arith}
-use Rattle.layout.specs.Slots.{candidates}
-use Rattle.packets.proofs.LinePasses.{any-later, any-none, any-more}
-use Rattle.packets.specs.Packets.{anyLine}
-use Rattle.layout.specs.declared.Line.{Line}
 use borrow.Author.Needs.{needs}
+use Rattle.layout.specs.Slots.{candidates}
+use Rattle.layout.specs.declared.Line.{Line}
+use Rattle.packets.specs.Packets.{anyLine}
+use Rattle.packets.proofs.LinePasses.{any-later, any-none, any-more}
 use Rattle.packets.proofs.passes.any_line.Statement.{statement}
 use Rattle.packets.proofs.passes.any_line.Tie as tie
 

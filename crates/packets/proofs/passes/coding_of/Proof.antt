@@ -1,10 +1,10 @@
 -- `packets::passes::coding_of` meets its contract. Assumes nothing.
 use mathlib.Core.Path.{ap, _∙_}
-use Prim.Native.Nat.{_/_}
-use lib.Dec.{eqb}
 use mathlib.Core.Bool.{not}
-use Rattle.packets.specs.Passes.{modeOf}
+use Prim.Native.Nat.{_/_}
 use borrow.Author.Needs.{needs}
+use lib.Dec.{eqb}
+use Rattle.packets.specs.Passes.{modeOf}
 use Rattle.packets.proofs.passes.coding_of.Statement.{statement}
 use Rattle.packets.proofs.passes.coding_of.Tie as tie
 

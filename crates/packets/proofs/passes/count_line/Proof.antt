@@ -1,8 +1,8 @@
 -- `packets::passes::count_line` meets its contract. Assumes nothing.
-use denote.Ref.{now}
 use native.Mathlib.Omega.{arith}
-use Rattle.packets.proofs.LinePasses.{count-ready, count-there, count-absent}
 use borrow.Author.Needs.{needs}
+use denote.Ref.{now}
+use Rattle.packets.proofs.LinePasses.{count-ready, count-there, count-absent}
 use Rattle.packets.proofs.passes.count_line.Statement.{statement}
 use Rattle.packets.proofs.passes.count_line.Tie as tie
 

@@ -1,6 +1,6 @@
 -- `packets::passes::marks_of` meets its contract. Assumes nothing.
-use denote.Ref.{now}
 use native.Mathlib.Omega.{arith}
+use denote.Ref.{now}
 use Rattle.packets.proofs.LinePasses.{flags-raw, flags-absent, flags-there, flags-plain}
 use Rattle.packets.proofs.passes.marks_of.Statement.{statement}
 use Rattle.packets.proofs.passes.marks_of.Tie as tie

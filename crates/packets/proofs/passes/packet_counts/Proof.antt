@@ -1,18 +1,18 @@
 -- `packets::passes::packet_counts` meets its contract. Assumes nothing.
 use mathlib.Core.Bool.{true}
-use Rattle.packets.specs.Steps.{Lies}
-use denote.Ref.{now}
-use Prim.Native.Nat.{_≤_, _<_, _-_, _*_, _^_}
 use mathlib.Core.Path.{_≡_, refl, ap, _∙_}
+use Prim.Native.Nat.{_≤_, _<_, _-_, _*_, _^_}
 use native.Mathlib.Omega.{arith}
-use Rattle.layout.specs.Slots.{candidates}
-use Rattle.packets.proofs.Lines.{lies-read}
-use Rattle.loops.proofs.Laws.{Going, begins, goes-on, stops, ends}
-use Rattle.packets.proofs.LinePasses.{count-turn, count-few, marks-none, marks-more, standing-still}
-use lib.ListN.{length}
-use Rattle.counts.specs.declared.Line.the-variants.{Done}
-use Rattle.packets.specs.Passes.{Counting, marks, countTurn, packetCounts}
 use borrow.Author.Needs.{needs}
+use denote.Ref.{now}
+use lib.ListN.{length}
+use Rattle.loops.proofs.Laws.{Going, begins, goes-on, stops, ends}
+use Rattle.layout.specs.Slots.{candidates}
+use Rattle.counts.specs.declared.Line.the-variants.{Done}
+use Rattle.packets.specs.Steps.{Lies}
+use Rattle.packets.specs.Passes.{Counting, marks, countTurn, packetCounts}
+use Rattle.packets.proofs.Lines.{lies-read}
+use Rattle.packets.proofs.LinePasses.{count-turn, count-few, marks-none, marks-more, standing-still}
 use Rattle.packets.proofs.passes.packet_counts.Statement.{statement}
 use Rattle.packets.proofs.passes.packet_counts.Tie as tie
 

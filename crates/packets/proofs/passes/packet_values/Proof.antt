@@ -1,19 +1,19 @@
 -- `packets::passes::packet_values` meets its contract. Assumes nothing.
 use mathlib.Core.Bool.{true}
-use Rattle.packets.specs.Steps.{Lies}
-use Prim.Native.Nat.{_≤_, _<_, _-_, _*_, _^_}
 use mathlib.Core.Path.{_≡_, refl, ap, _∙_}
-use native.Mathlib.Omega.{arith}
-use Rattle.layout.specs.Slots.{candidates}
-use Rattle.packets.proofs.Lines.{lies-read}
-use Rattle.loops.proofs.Laws.{Going, begins, goes-on, ends}
-use Rattle.packets.proofs.LinePasses.{value-turn, value-few}
 use mathlib.Core.List.{List}
+use Prim.Native.Nat.{_≤_, _<_, _-_, _*_, _^_}
+use native.Mathlib.Omega.{arith}
+use borrow.Author.Needs.{needs}
 use lib.IntN.{ℤ}
 use lib.ListN.{length}
+use Rattle.loops.proofs.Laws.{Going, begins, goes-on, ends}
+use Rattle.layout.specs.Slots.{candidates}
 use Rattle.values.specs.declared.Next.{Next}
+use Rattle.packets.specs.Steps.{Lies}
 use Rattle.packets.specs.Passes.{valueTurn, packetValues}
-use borrow.Author.Needs.{needs}
+use Rattle.packets.proofs.Lines.{lies-read}
+use Rattle.packets.proofs.LinePasses.{value-turn, value-few}
 use Rattle.packets.proofs.passes.packet_values.Statement.{statement}
 use Rattle.packets.proofs.passes.packet_values.Tie as tie
 

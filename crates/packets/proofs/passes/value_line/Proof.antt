@@ -1,7 +1,7 @@
 -- `packets::passes::value_line` meets its contract. Assumes nothing.
+use borrow.Author.Needs.{needs}
 use denote.Ref.{now}
 use Rattle.packets.proofs.LinePasses.{value-fit, value-there, value-absent}
-use borrow.Author.Needs.{needs}
 use Rattle.packets.proofs.passes.value_line.Statement.{statement}
 use Rattle.packets.proofs.passes.value_line.Tie as tie
 
