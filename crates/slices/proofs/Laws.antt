@@ -1,5 +1,5 @@
 -- What precincts, slices and the stream leave, for the layers above: where a reading ends, which cells it keeps, and the largest T. Assumes nothing.
-use Prim.Native.Nat.{ℕ, zero, suc, _+_, _≤_, _<_, max}
+use Prim.Native.Nat.{ℕ, zero, suc, _+_, _/_, _≤_, _<_, max}
 use mathlib.Core.Path.{_≡_, refl, _∙_}
 use mathlib.Core.Bool.{Bool, true, false, cond}
 use mathlib.Core.List.{List, [], _∷_}
@@ -17,13 +17,13 @@ use Rattle.layout.specs.Built.{Built}
 use Rattle.layout.specs.Bands.{NL}
 use Rattle.layout.specs.Precincts.{Npx, Npy, Np, slices}
 use Rattle.layout.specs.Cells.{start}
-use Rattle.layout.specs.Slots.{slots, candidates}
+use Rattle.layout.specs.Slots.{slots, candidates, line-at}
 use Rattle.packets.specs.declared.Setting.{Setting}
 use Rattle.packets.specs.declared.Precinct.{Precinct}
 use Rattle.packets.specs.Precincts.{T}
 use Rattle.packets.specs.Ready.{Settled}
 use Rattle.packets.specs.Packets.{anyLine, packet}
-use Rattle.packets.proofs.Laws.{packet-length, packet-behind}
+use Rattle.packets.proofs.Laws.{Apart, packet-length, packet-other, packet-behind}
 use Rattle.packets.proofs.LinePasses.{T-most}
 use Rattle.slices.specs.Precinct.{precinctAt, headerChecks, body, noFlags, Packing, packed, packetTurn, restChecks, packets, packetsBy, precinct, holds, raisedBy, raised}
 use Rattle.slices.specs.Slice.{State, Left, rowOf, columnOf, isTop, sliceChecks, placed, precinctTurn, precincts, precinctsBy, slice}
@@ -57,68 +57,81 @@ module _ (s : List ℕ) (c : Setting) (P : List ℤ → Type 0) where
             (slots (c .shape)) (λ x p. p) (λ g x l p. packet-turn-keeps g x l p) (slots (c .shape)) 0 (body s c row column at, noFlags s c row column at, cells) (omega arith) h
         by (Refused k) = h
 
-  module _ (built : Built (c .shape))
-      (kept : (row column at slot place : ℕ) (raws : List ℕ) (cells : List ℤ) → row < Npy (c .shape) → column < Npx (c .shape) → slot < slots (c .shape)
-      → P cells → P (packet s c (precinctAt s c row column at) slot place raws cells .1)) where
-    abbrev KeptHere : Turn State Left → Type 0
-    KeptHere u = Kept (λ (y : State). P (y .2)) (λ (r : Left). P (r .1 .2)) u
+  -- the packets of the precincts of slice t
+  abbrev PacketsKeep : ℕ → Type 0
+  PacketsKeep t =
+      (row column at slot place : ℕ) (raws : List ℕ) (cells : List ℤ) → row < Npy (c .shape) → row / c .shape .hsl ≡ t → column < Npx (c .shape) → slot < slots (c .shape)
+      → P cells → P (packet s c (precinctAt s c row column at) slot place raws cells .1)
 
-    placed-keeps : (t n : ℕ) (x : State) (y : Verdict × List ℤ) → P (y .1) → KeptHere (placed s c t n x y)
-    placed-keeps t n x (Fine, cells) h = h
-    placed-keeps t n x (Refused k, cells) h = h
+  abbrev KeptHere : Turn State Left → Type 0
+  KeptHere u = Kept (λ (y : State). P (y .2)) (λ (r : Left). P (r .1 .2)) u
 
-    precinct-turn-keeps : (t : ℕ) → t < slices (c .shape) → (n : ℕ) (x : State) → n < Np (c .shape) t → P (x .2) → KeptHere (precinctTurn s c t n x)
+  module _ (built : Built (c .shape)) (t : ℕ) (l : t < slices (c .shape)) (kept : PacketsKeep t) where
+    placed-keeps : (n : ℕ) (x : State) (y : Verdict × List ℤ) → P (y .1) → KeptHere (placed s c t n x y)
+    placed-keeps n x (Fine, cells) h = h
+    placed-keeps n x (Refused k, cells) h = h
+
+    precinct-turn-keeps : (n : ℕ) (x : State) → n < Np (c .shape) t → P (x .2) → KeptHere (precinctTurn s c t n x)
     unfolding precinctTurn
-    precinct-turn-keeps t l n x k h =
-        placed-keeps t n x (precinct s c (rowOf s c t n) (columnOf s c t n) (x .0) (isTop s c t n) (x .2))
+    precinct-turn-keeps n x k h =
+        let r = row-inside (c .shape) built t l n k in
+        placed-keeps n x (precinct s c (rowOf s c t n) (columnOf s c t n) (x .0) (isTop s c t n) (x .2))
         (precinct-keeps (rowOf s c t n) (columnOf s c t n) (x .0)
-        (λ slot place raws cells. kept (rowOf s c t n) (columnOf s c t n) (x .0) slot place raws cells (row-inside (c .shape) built t l n k) (column-inside (c .shape) built t l n k))
+        (λ slot place raws cells. kept (rowOf s c t n) (columnOf s c t n) (x .0) slot place raws cells (r .0) (r .1) (column-inside (c .shape) built t l n k))
         (isTop s c t n) (x .2) h)
 
-    pub slice-keeps : (t : ℕ) → t < slices (c .shape) → (x : State) → P (x .2) → P (slice s c t x .1 .2)
+    pub slice-keeps : (x : State) → P (x .2) → P (slice s c t x .1 .2)
     unfolding slice precincts
-    slice-keeps t l x h = by (first (sliceChecks s t (x .0)))
+    slice-keeps x h = by (first (sliceChecks s t (x .0)))
       where
         by : (v : Verdict) → P (precinctsBy s c t v x .1 .2)
         by Fine =
             run-keeps (λ (y : State). P (y .2)) (λ (r : Left). P (r .1 .2)) (precinctTurn s c t) (λ y. (Fine, y)) (Np (c .shape) t) (λ y p. p)
-            (λ n y k p. precinct-turn-keeps t l n y k p) (Np (c .shape) t) 0 (x .0 + 6, x .1, x .2) (omega arith) h
+            (λ n y k p. precinct-turn-keeps n y k p) (Np (c .shape) t) 0 (x .0 + 6, x .1, x .2) (omega arith) h
         by (Refused k) = h
 
-    sliced-keeps : (y : Left) → P (y .1 .2) → KeptHere (sliced y)
-    sliced-keeps (Fine, x) h = h
-    sliced-keeps (Refused k, x) h = h
+  sliced-keeps : (y : Left) → P (y .1 .2) → KeptHere (sliced y)
+  sliced-keeps (Fine, x) h = h
+  sliced-keeps (Refused k, x) h = h
 
-    pub stream-keeps : (x : State) → P (x .2) → P (stream s c x .1 .2)
-    unfolding stream sliceTurn
-    stream-keeps x h =
-        run-keeps (λ (y : State). P (y .2)) (λ (r : Left). P (r .1 .2)) (sliceTurn s c) (ended s) (slices (c .shape)) (λ y p. p)
-        (λ t y l p. sliced-keeps (slice s c t y) (slice-keeps t l y p)) (slices (c .shape)) 0 x (omega arith) h
+  pub stream-keeps : Built (c .shape) → ((t : ℕ) → PacketsKeep t) → (x : State) → P (x .2) → P (stream s c x .1 .2)
+  unfolding stream sliceTurn
+  stream-keeps built kept x h =
+      run-keeps (λ (y : State). P (y .2)) (λ (r : Left). P (r .1 .2)) (sliceTurn s c) (ended s) (slices (c .shape)) (λ y p. p)
+      (λ t y l p. sliced-keeps (slice s c t y) (slice-keeps built t l (kept t) y p)) (slices (c .shape)) 0 x (omega arith) h
 
 -- ---- the cells: as many as before, and none changed behind those of the components
 
 module _ (s : List ℕ) (c : Setting) (settled : Settled c) where
+  length-kept : (n t : ℕ) → PacketsKeep s c (λ z. length z ≡ n) t
+  length-kept n t row column at slot place raws cells r q k j e = packet-length s c (precinctAt s c row column at) slot place raws cells ∙ e
+
   pub slice-length : (t : ℕ) → t < slices (c .shape) → (x : State) → length (slice s c t x .1 .2) ≡ length (x .2)
-  slice-length t l x =
-      slice-keeps s c (λ z. length z ≡ length (x .2)) (settled .shape)
-      (λ row column at slot place raws cells r k j e. packet-length s c (precinctAt s c row column at) slot place raws cells ∙ e) t l x refl
+  slice-length t l x = slice-keeps s c (λ z. length z ≡ length (x .2)) (settled .shape) t l (length-kept (length (x .2)) t) x refl
 
   pub stream-length : (x : State) → length (stream s c x .1 .2) ≡ length (x .2)
-  stream-length x =
-      stream-keeps s c (λ z. length z ≡ length (x .2)) (settled .shape)
-      (λ row column at slot place raws cells r k j e. packet-length s c (precinctAt s c row column at) slot place raws cells ∙ e) x refl
+  stream-length x = stream-keeps s c (λ z. length z ≡ length (x .2)) (settled .shape) (length-kept (length (x .2))) x refl
 
-  module _ (n : ℕ) (h : start (c .shape) (c .shape .nc) ≤ n) where
-    behind-kept : (z : ℤ) (row column at slot place : ℕ) (raws : List ℕ) (cells : List ℤ) → row < Npy (c .shape) → column < Npx (c .shape) → slot < slots (c .shape)
-        → cell cells n ≡ z → cell (packet s c (precinctAt s c row column at) slot place raws cells .1) n ≡ z
-    behind-kept z row column at slot place raws cells r k j e =
+  module _ (n : ℕ) where
+    behind-kept : start (c .shape) (c .shape .nc) ≤ n → (z : ℤ) (t : ℕ) → PacketsKeep s c (λ cells. cell cells n ≡ z) t
+    behind-kept h z t row column at slot place raws cells r q k j e =
         packet-behind s c (precinctAt s c row column at) slot place raws cells (record { settled = settled; row = r; column = k; which = j }) n h ∙ e
 
-    pub slice-behind : (t : ℕ) → t < slices (c .shape) → (x : State) → cell (slice s c t x .1 .2) n ≡ cell (x .2) n
-    slice-behind t l x = slice-keeps s c (λ z. cell z n ≡ cell (x .2) n) (settled .shape) (behind-kept (cell (x .2) n)) t l x refl
+    pub slice-behind : start (c .shape) (c .shape .nc) ≤ n → (t : ℕ) → t < slices (c .shape) → (x : State) → cell (slice s c t x .1 .2) n ≡ cell (x .2) n
+    slice-behind h t l x = slice-keeps s c (λ z. cell z n ≡ cell (x .2) n) (settled .shape) t l (behind-kept h (cell (x .2) n) t) x refl
 
-    pub stream-behind : (x : State) → cell (stream s c x .1 .2) n ≡ cell (x .2) n
-    stream-behind x = stream-keeps s c (λ z. cell z n ≡ cell (x .2) n) (settled .shape) (behind-kept (cell (x .2) n)) x refl
+    pub stream-behind : start (c .shape) (c .shape .nc) ≤ n → (x : State) → cell (stream s c x .1 .2) n ≡ cell (x .2) n
+    stream-behind h x = stream-keeps s c (λ z. cell z n ≡ cell (x .2) n) (settled .shape) (behind-kept h (cell (x .2) n)) x refl
+
+    -- a slice changes the cells of the lines in its own rows of precincts alone
+    pub slice-other : (t : ℕ) → t < slices (c .shape)
+        → ((row column slot j : ℕ) → row < Npy (c .shape) → row / c .shape .hsl ≡ t → column < Npx (c .shape) → slot < slots (c .shape) → j < candidates (c .shape) slot
+        → line-at (c .shape) row column slot j .present ≡ true → Apart (line-at (c .shape) row column slot j) n)
+        → (x : State) → cell (slice s c t x .1 .2) n ≡ cell (x .2) n
+    slice-other t l apart x =
+        slice-keeps s c (λ z. cell z n ≡ cell (x .2) n) (settled .shape) t l
+        (λ row column at slot place raws cells r q k j e. packet-other s c (precinctAt s c row column at) slot place raws cells n (λ i m p. apart row column slot i r q k j m p) ∙ e)
+        x refl
 
 -- ---- where an accepted reading ends
 

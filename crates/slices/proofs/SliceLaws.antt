@@ -38,10 +38,11 @@ use Rattle.slices.proofs.PrecinctLaws.{clash, settled, row-is, column-i
 
 module _ (s : Shape) (built : Built s) (t : ℕ) (h : t < slices s) where
   module _ (n : ℕ) (k : n < Np s t) where
-    pub row-inside : slice-top s t + n / Npx s < Npy s
+    -- its row is one of the picture's, and of the slice's
+    pub row-inside : (slice-top s t + n / Npx s < Npy s) × ((slice-top s t + n / Npx s) / s .hsl ≡ t)
     row-inside =
         let d : n / Npx s < slice-rows s t = div-lt-iff-lt-mul (Npx-some s built) .1 (omega (arith, k, mul-comm (Npx s) (slice-rows s t))) in
-        slice-row s built t (slice-top s t + n / Npx s) h (omega arith) (omega (arith, d)) .0
+        slice-row s built t (slice-top s t + n / Npx s) h (omega arith) (omega (arith, d))
 
     pub column-inside : n % Npx s < Npx s
     column-inside = mod-lt n (Npx-some s built)
@@ -53,7 +54,7 @@ module _ (s : List ℕ) (c : Setting) (t n at : ℕ) {columns : ℕ} {p : Precin
       let q : n / columns ≡ n / Npx (c .shape) = λ i. n / e i in
       let r : n % columns ≡ n % Npx (c .shape) = λ i. n % e i in
       record {
-        row = omega (arith, row-is x, q, row-inside (c .shape) (settled .shape) t h n k);
+        row = omega (arith, row-is x, q, row-inside (c .shape) (settled .shape) t h n k .0);
         column = omega (arith, column-is x, r, column-inside (c .shape) (settled .shape) t h n k);
         later = λ z. omega (arith, row-is x, eqb-false (n / columns) 0 z);
       }

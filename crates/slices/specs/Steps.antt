@@ -28,7 +28,7 @@ pub record Lent (s : List ℕ) (c : Setting) (at cells : ℕ) : Type 0 where
   pub inside : at ≤ length s
   pub room : start (c .shape) (c .shape .nc) ≤ cells
 
--- a precinct of the picture, with its header's fields. Only the top row of a slice can be the picture's first
+-- a precinct of the picture. Only the top row of a slice can be the picture's first
 pub record Placed (c : Setting) (p : Precinct) (top : Bool) : Type 0 where
   pub row : p .row < Npy (c .shape)
   pub column : p .column < Npx (c .shape)

@@ -17,14 +17,14 @@ mul-precinct-at : tie.Need-mul-precinct-at
 mul-precinct-at c =
     let a = c .before .before .before .before .args in
     let h = c .before .before .before .before .pre in
-    omega (arith, row-inside (a .c .shape) (h .0 .settled .shape) (a .t) (h .1) (a .n) (h .2), Npy-most (a .c .shape) (h .0 .settled .shape))
+    omega (arith, row-inside (a .c .shape) (h .0 .settled .shape) (a .t) (h .1) (a .n) (h .2) .0, Npy-most (a .c .shape) (h .0 .settled .shape))
 
 add-precinct-at : tie.Need-add-precinct-at
 add-precinct-at c =
     let a = c .before .before .before .before .args in
     let h = c .before .before .before .before .pre in
     let q : a .n / c .before .precinct-columns .result ≡ a .n / Npx (a .c .shape) = λ i. a .n / c .before .precinct-columns .ensures .0 i in
-    omega (arith, q, row-inside (a .c .shape) (h .0 .settled .shape) (a .t) (h .1) (a .n) (h .2), Npy-most (a .c .shape) (h .0 .settled .shape))
+    omega (arith, q, row-inside (a .c .shape) (h .0 .settled .shape) (a .t) (h .1) (a .n) (h .2) .0, Npy-most (a .c .shape) (h .0 .settled .shape))
 
 rem-precinct-at : tie.Need-rem-precinct-at
 rem-precinct-at c = omega (arith, c .before .precinct-columns .ensures .0, Npx-some (c .before .before .before .before .args .c .shape) (c .before .before .before .before .pre .0 .settled .shape))
