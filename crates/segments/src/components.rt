@@ -5,7 +5,6 @@ use crate::numbers::less;
 use crate::numbers::power;
 use crate::numbers::remainder;
 use picture::picture::Picture;
-use picture::picture::bits_at;
 use rows::AMPLE;
 use rows::Check;
 use rows::Field;
@@ -28,16 +27,16 @@ pub struct Component {
 
 pub fn sx_at(s: &[u8], p: usize, c: usize) -> usize
     requires { ⌜ (p < 2 ^ 32) × (c < 256) ⌝ }
-    ensures { λ r. ⌜ IsField (now (s .entry)) (8 * (p + 5 + 2 * c) + 0) 4 r ⌝ }
+    ensures { λ r. ⌜ IsField (now (s .entry)) (8 * (p + 5 + 2 * c)) 4 r ⌝ }
 {
-    bits_at(s, p + 5 + 2 * c, 0, 4)
+    bits::u8_at(s, p + 5 + 2 * c) / 16
 }
 
 pub fn sy_at(s: &[u8], p: usize, c: usize) -> usize
     requires { ⌜ (p < 2 ^ 32) × (c < 256) ⌝ }
     ensures { λ r. ⌜ IsField (now (s .entry)) (8 * (p + 5 + 2 * c) + 4) 4 r ⌝ }
 {
-    bits_at(s, p + 5 + 2 * c, 4, 4)
+    bits::u8_at(s, p + 5 + 2 * c) % 16
 }
 
 impl Component {
