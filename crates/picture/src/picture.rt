@@ -106,6 +106,7 @@ impl Picture {
     }
 }
 
+// Lcod to Hsl.
 fn size_row(n: usize, p: usize, h: Picture) -> Verdict
     requires { ⌜ p < 2 ^ 32 ⌝ }
     ensures { λ r. ⌜ r ≡ first (sizeChecks n p h) ⌝ }
@@ -122,6 +123,7 @@ fn size_row(n: usize, p: usize, h: Picture) -> Verdict
     ])
 }
 
+// Nc to Br.
 fn precision_row(p: usize, h: Picture) -> Verdict
     requires { ⌜ p < 2 ^ 32 ⌝ }
     ensures { λ r. ⌜ r ≡ first (precisionChecks p h) ⌝ }
@@ -144,6 +146,7 @@ fn precision_row(p: usize, h: Picture) -> Verdict
     ])
 }
 
+// Fslc to Cpih.
 fn mode_row(p: usize, h: Picture) -> Verdict
     requires { ⌜ p < 2 ^ 32 ⌝ }
     ensures { λ r. ⌜ r ≡ first (modeChecks p h) ⌝ }
@@ -163,6 +166,7 @@ fn mode_row(p: usize, h: Picture) -> Verdict
     ])
 }
 
+// NLx to Rm.
 fn level_row(p: usize, h: Picture) -> Verdict
     requires { ⌜ p < 2 ^ 32 ⌝ }
     ensures { λ r. ⌜ r ≡ first (levelChecks p h) ⌝ }
