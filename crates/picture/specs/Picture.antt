@@ -117,7 +117,7 @@ precisionChecks p h =
 abbrev pub mostCpih : ℕ → ℕ
 mostCpih nc = cond (ltb nc 3) 0 (cond (ltb nc 4) 1 3)
 
--- Table A.7, Fslc to NLy, with Tables A.9, A.13 and A.14. Star-Tetrix is not built, nor are more than 5 levels across or 2 down
+-- Table A.7, Fslc to Cpih, with Tables A.9, A.13 and A.14: 2 is reserved, and Star-Tetrix not built
 abbrev pub modeChecks : ℕ → Picture → List Check
 modeChecks p h =
     check Value (p + 25) Fslc (h .fslc) 0 0
@@ -127,6 +127,7 @@ modeChecks p h =
     ∷ check Lacking (p + 25) Cpih (h .cpih) 0 1
     ∷ []
 
+-- Table A.7, NLx to Rm, with Tables A.10 to A.12. NLy is at most min(NLx, 6); more than 5 levels across or 2 down are not built
 abbrev pub levelChecks : ℕ → Picture → List Check
 levelChecks p h =
     check Value (p + 26) Nlx (h .nlx) 1 8
