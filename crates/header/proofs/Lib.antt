@@ -3,4 +3,4 @@ pub mod Lists
 pub mod Steps
 pub mod Whole
 pub mod Ranges
-pub mod Accepted
+pub mod Sound

@@ -19,7 +19,8 @@ use Rattle.segments.specs.Components.{sxAt, componentAt, widest, depthChecks, l
 use Rattle.segments.specs.Weights.{bandIn, bandsIn, gainAt, gainRow, gainChecks}
 use Rattle.segments.specs.declared.components.Component.{Component}
 use Rattle.segments.proofs.NumberLaws.{cond-le}
-use Rattle.header.specs.Header.{four, listed, componentOf, bandIs, gainOf, largest, Sampled}
+use Rattle.header.specs.Accepted.{largest, Sampled}
+use Rattle.header.specs.Header.{four, listed, componentOf, bandIs, gainOf}
 use Rattle.header.proofs.Lists.{listed-at, listed-past}
 
 -- ---- a component

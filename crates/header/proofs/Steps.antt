@@ -29,7 +29,8 @@ use Rattle.header.specs.Walk.{captionOf, ended, accepted, judged, step, 
 use Rattle.header.specs.declared.walk.Walk.{Walk}
 use Rattle.header.proofs.Until.{Falls, until-free}
 
-clash : {A : Type 0} → true ≡ false → A
+-- a test has one result
+pub clash : {A : Type 0} → true ≡ false → A
 clash e = let z : _≡_ {A = ℕ} 0 1 = cc in absurd (omega arith)
 
 -- the walk goes on inside the stream

@@ -2,18 +2,14 @@
 use Prim.Native.Nat.{ℕ, _+_, _≤_, zero-le}
 use mathlib.Core.List.{List}
 use mathlib.Core.Path.{_≡_, refl}
-use native.Mathlib.Omega.{arith}
 use lib.ListN.{length}
-use Rattle.rows.specs.declared.Check.{Check}
 use Rattle.rows.specs.declared.Verdict.{Verdict}
 use Rattle.rows.specs.declared.Verdict.the-variants.{Fine, Refused}
+use Rattle.rows.proofs.Tables.{refused-fine}
 use Rattle.picture.specs.declared.picture.Picture.{Picture}
 use Rattle.header.specs.Header.{walkBy, headerBy}
 use Rattle.header.specs.Walk.{Inside}
 use Rattle.header.specs.declared.walk.Walk.{Walk}
-
-refused-fine : {A : Type 0} {c : Check} → Refused c ≡ Fine → A
-refused-fine e = let z : _≡_ {A = ℕ} 0 1 = cc in absurd (omega arith)
 
 -- a walk is fine only behind an opening that is
 pub opening-fine : (v : Verdict) (s : List ℕ) (h : Picture) (p : ℕ) → walkBy v s h p .verdict ≡ Fine → v ≡ Fine

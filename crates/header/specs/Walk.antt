@@ -21,7 +21,7 @@ use Rattle.segments.specs.declared.seen.Seen.{Seen}
 use Rattle.header.specs.declared.captions.Caption.{Caption}
 use Rattle.header.specs.declared.walk.Walk.{Walk}
 
--- the segment g is the first of its kind; of the extensions only the first bench caption counts
+-- the place of the first bench caption: 'The first one counts; later ones are skipped.'
 abbrev pub captionPlace : List ℕ → Segment → Seen → ℕ
 captionPlace s g x = cond (eqb (typeAt s (g .at)) CAPTION && eqb (x .caption) 0) (g .at) (x .caption)
 
@@ -33,7 +33,7 @@ ended v at x = record { at = at; done = true; verdict = v; seen = x }
 abbrev pub behind : Segment → Seen → Walk
 behind g x = record { at = g .at + 2 + g .size; done = false; verdict = Fine; seen = x }
 
--- an accepted segment. No segment that is not built is accepted, nor one that is unknown
+-- behind an accepted segment its place is known. The first slice marker ends the walk; the kinds below it are never accepted
 abbrev pub accepted : Kind → List ℕ → Segment → Seen → Walk
 accepted Components s g x = behind g (record { cdt = g .at; wgt = x .wgt; caption = x .caption; crg = x .crg; cwd = x .cwd })
 accepted Weights s g x = behind g (record { cdt = x .cdt; wgt = g .at; caption = x .caption; crg = x .crg; cwd = x .cwd })

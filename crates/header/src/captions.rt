@@ -4,6 +4,7 @@ ghost use mathlib.Core.Path.{_≡_};
 ghost use Prim.Native.Nat.{_<_, _^_};
 ghost use Rattle.header.specs.Walk.{captionOf};
 
+// Whether there is a caption, and the part of the stream that it is.
 pub struct Caption {
     pub there: bool,
     // its first byte, and how many there are

@@ -16,6 +16,7 @@ ghost use Rattle.picture.specs.Opening.{Opened};
 ghost use Rattle.header.specs.Walk.{Inside};
 ghost use Rattle.header.specs.Header.{componentOf, headerIn, noHeader, walkBy, headerBy, readingBy};
 
+// What the segments say.
 pub struct Header {
     pub picture: Picture,
     // by component: 0 where there is none
@@ -36,6 +37,7 @@ pub struct Reading {
     pub header: Header,
 }
 
+// Component c of the table at `cdt`, or none.
 fn component(s: &[u8], h: Picture, cdt: usize, c: usize) -> Component
     requires { ⌜ (cdt < 2 ^ 32) × (c < 256) ⌝ }
     ensures { λ r. ⌜ r ≡ componentOf (now (s .entry)) h cdt c ⌝ }
@@ -108,6 +110,7 @@ pub fn walk_by(v: Verdict, s: &[u8], h: Picture, p: usize) -> Walk
     }
 }
 
+// The header of an accepted stream, or none.
 fn header_by(v: Verdict, s: &[u8], h: Picture, w: Walk) -> Header
     requires { ⌜ (v ≡ Fine → Built h × (length (now s) < 2 ^ 32)) × Inside (now s) w ⌝ }
     ensures { λ r. ⌜ r ≡ headerBy v (now (s .entry)) h w ⌝ }
@@ -119,6 +122,7 @@ fn header_by(v: Verdict, s: &[u8], h: Picture, w: Walk) -> Header
     }
 }
 
+// The answer at a walk's end.
 pub fn reading_by(s: &[u8], h: Picture, w: Walk) -> Reading
     requires { ⌜ (w .verdict ≡ Fine → Built h × (length (now s) < 2 ^ 32)) × Inside (now s) w ⌝ }
     ensures { λ r. ⌜ (r ≡ readingBy (now (s .entry)) h w) × (r .header .caption .at + r .header .caption .size ≤ length (now (s .entry))) ⌝ }

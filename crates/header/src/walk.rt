@@ -13,6 +13,7 @@ ghost use lib.ListN.{length};
 ghost use Rattle.picture.specs.Picture.{Built};
 ghost use Rattle.header.specs.Walk.{captionPlace, ended, behind, accepted, judged, step, begun, Inside, IsWalk};
 
+// Where the walk is, whether it has ended, with which verdict, and what it has seen.
 pub struct Walk {
     // the place of the segment at hand
     pub at: usize,
@@ -22,6 +23,7 @@ pub struct Walk {
 }
 
 impl Walk {
+    // Nothing is seen yet.
     fn begin(at: usize) -> Self
         ensures { λ r. ⌜ r ≡ begun at ⌝ }
     {
@@ -33,6 +35,7 @@ impl Walk {
         }
     }
 
+    // The end, at a place.
     pub fn end(verdict: Verdict, at: usize, seen: Seen) -> Self
         ensures { λ r. ⌜ r ≡ ended verdict at seen ⌝ }
     {
@@ -44,6 +47,7 @@ impl Walk {
         }
     }
 
+    // On behind the segment g.
     fn behind(g: Segment, seen: Seen) -> Self
         requires { ⌜ (g .at < 2 ^ 32) × (g .size < 2 ^ 16) ⌝ }
         ensures { λ r. ⌜ r ≡ behind g seen ⌝ }
@@ -57,6 +61,7 @@ impl Walk {
     }
 }
 
+// The place of the first bench caption.
 fn caption_place(s: &[u8], g: Segment, x: Seen) -> usize
     requires { ⌜ g .at < 2 ^ 32 ⌝ }
     ensures { λ r. ⌜ r ≡ captionPlace (now (s .entry)) g x ⌝ }
@@ -65,6 +70,7 @@ fn caption_place(s: &[u8], g: Segment, x: Seen) -> usize
     rows::choose(is & (x.caption == 0), g.at, x.caption)
 }
 
+// An accepted segment.
 fn accept(kind: Kind, s: &[u8], g: Segment, x: Seen) -> Walk
     requires { ⌜ (g .at < 2 ^ 32) × (g .size < 2 ^ 16) ⌝ }
     ensures { λ r. ⌜ r ≡ accepted kind (now (s .entry)) g x ⌝ }
@@ -103,6 +109,7 @@ fn accept(kind: Kind, s: &[u8], g: Segment, x: Seen) -> Walk
     }
 }
 
+// A segment with its verdict.
 fn judge(v: Verdict, kind: Kind, s: &[u8], g: Segment, x: Seen) -> Walk
     requires { ⌜ (g .at < 2 ^ 32) × (g .size < 2 ^ 16) ⌝ }
     ensures { λ r. ⌜ r ≡ judged v kind (now (s .entry)) g x ⌝ }
@@ -113,6 +120,7 @@ fn judge(v: Verdict, kind: Kind, s: &[u8], g: Segment, x: Seen) -> Walk
     }
 }
 
+// The segment at hand.
 fn step(s: &[u8], h: Picture, w: Walk) -> Walk
     requires { ⌜ Built h × (length (now s) < 2 ^ 32) × Inside (now s) w ⌝ }
     ensures { λ r. ⌜ r ≡ step (now (s .entry)) h w ⌝ }

@@ -4,11 +4,12 @@ use segments::weights::band_count;
 use segments::weights::band_exists;
 ghost use mathlib.Core.Path.{_≡_};
 ghost use mathlib.Core.Bool.{cond};
-ghost use Prim.Native.Nat.{_+_, _<_, _^_};
+ghost use Prim.Native.Nat.{_<_, _^_};
 ghost use Rattle.bits.specs.Fields.{fieldAt};
 ghost use Rattle.picture.specs.Picture.{Built};
 ghost use Rattle.header.specs.Header.{bandIs, weightsOf};
 
+// By band: 0 where it does not exist. No picture has more than 40 bands.
 pub struct Weights {
     pub gains: [u8; 40],
     pub priorities: [u8; 40],

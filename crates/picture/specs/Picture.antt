@@ -9,30 +9,11 @@ use Rattle.rows.specs.Rows.{check, ample}
 use Rattle.rows.specs.declared.Check.{Check}
 use Rattle.rows.specs.declared.Field.the-variants.{Lcod, Wf, Hf, Hsl, Nc, Ng, Ss, Bw, Fq, Br, Fslc, Ppoc, Cpih, Nlx, Nly, Qpih, Fs, Rm}
 use Rattle.rows.specs.declared.Row.the-variants.{Value, Lacking, Length}
-use Rattle.picture.specs.declared.picture.Modes.{Modes}
 use Rattle.picture.specs.declared.picture.Picture.{Picture}
 
 -- u(n) behind the first k bits of the byte at a place
 abbrev pub bitsAt : List ℕ → ℕ → ℕ → ℕ → ℕ
 bitsAt s place k n = field s (8 * place + k) n
-
--- Table A.7, the fields behind Bw
-abbrev pub modesAt : List ℕ → ℕ → Modes
-modesAt s p =
-    record {
-      fq = bitsAt s (p + 24) 0 4;
-      br = bitsAt s (p + 24) 4 4;
-      fslc = bitsAt s (p + 25) 0 1;
-      ppoc = bitsAt s (p + 25) 1 3;
-      cpih = bitsAt s (p + 25) 4 4;
-      nlx = bitsAt s (p + 26) 0 4;
-      nly = bitsAt s (p + 26) 4 4;
-      lh = bitsAt s (p + 27) 0 1;
-      rl = bitsAt s (p + 27) 1 1;
-      qpih = bitsAt s (p + 27) 2 2;
-      fs = bitsAt s (p + 27) 4 2;
-      rm = bitsAt s (p + 27) 6 2;
-    }
 
 -- Table A.7
 abbrev pub pictureAt : List ℕ → ℕ → Picture
@@ -49,14 +30,14 @@ pictureAt s p =
       ng = fieldAt s (p + 21) 8;
       ss = fieldAt s (p + 22) 8;
       bw = fieldAt s (p + 23) 8;
-      fq = bitsAt s (p + 24) 0 4;
+      fq = fieldAt s (p + 24) 4;
       br = bitsAt s (p + 24) 4 4;
-      fslc = bitsAt s (p + 25) 0 1;
+      fslc = fieldAt s (p + 25) 1;
       ppoc = bitsAt s (p + 25) 1 3;
       cpih = bitsAt s (p + 25) 4 4;
-      nlx = bitsAt s (p + 26) 0 4;
+      nlx = fieldAt s (p + 26) 4;
       nly = bitsAt s (p + 26) 4 4;
-      lh = bitsAt s (p + 27) 0 1;
+      lh = fieldAt s (p + 27) 1;
       rl = bitsAt s (p + 27) 1 1;
       qpih = bitsAt s (p + 27) 2 2;
       fs = bitsAt s (p + 27) 4 2;
@@ -136,7 +117,7 @@ precisionChecks p h =
 abbrev pub mostCpih : ℕ → ℕ
 mostCpih nc = cond (ltb nc 3) 0 (cond (ltb nc 4) 1 3)
 
--- Table A.7, Fslc to NLy, with Tables A.9, A.13 and A.14. Star-Tetrix is not built, nor are more than 5 levels across or 2 down
+-- Table A.7, Fslc to Cpih, with Tables A.9, A.13 and A.14: 2 is reserved, and Star-Tetrix not built
 abbrev pub modeChecks : ℕ → Picture → List Check
 modeChecks p h =
     check Value (p + 25) Fslc (h .fslc) 0 0
@@ -146,6 +127,7 @@ modeChecks p h =
     ∷ check Lacking (p + 25) Cpih (h .cpih) 0 1
     ∷ []
 
+-- Table A.7, NLx to Rm, with Tables A.10 to A.12. NLy is at most min(NLx, 6); more than 5 levels across or 2 down are not built
 abbrev pub levelChecks : ℕ → Picture → List Check
 levelChecks p h =
     check Value (p + 26) Nlx (h .nlx) 1 8

@@ -13,6 +13,7 @@ ghost use Rattle.rows.specs.Rows.{first};
 ghost use Rattle.picture.specs.Opening.{startChecks, pictureChecks, IsOpening};
 ghost use Rattle.picture.specs.Picture.{pictureAt};
 
+// The verdict on the first three segments, and the picture header.
 pub struct Opening {
     pub verdict: Verdict,
     // the picture header's place
@@ -20,6 +21,7 @@ pub struct Opening {
     pub picture: Picture,
 }
 
+// The start of codestream and the capabilities.
 fn start_row(s: &[u8]) -> Verdict
     ensures { λ r. ⌜ r ≡ first (startChecks (now (s .entry))) ⌝ }
 {
@@ -30,6 +32,7 @@ fn start_row(s: &[u8]) -> Verdict
     rows::then(soc, rows::then(cap, lcap))
 }
 
+// The picture header at p.
 fn picture_row(s: &[u8], p: usize, h: Picture) -> Verdict
     requires { ⌜ (p < 2 ^ 32) × (h ≡ pictureAt (now s) p) ⌝ }
     ensures { λ r. ⌜ r ≡ first (pictureChecks (now (s .entry)) p) ⌝ }
@@ -42,6 +45,7 @@ fn picture_row(s: &[u8], p: usize, h: Picture) -> Verdict
 }
 
 impl Opening {
+    // Of a stream.
     pub fn read(s: &[u8]) -> Self
         ensures { λ r. ⌜ IsOpening (now (s .entry)) r ⌝ }
     {

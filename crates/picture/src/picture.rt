@@ -6,10 +6,9 @@ use rows::HOLDS;
 use rows::Row;
 use rows::Verdict;
 ghost use mathlib.Core.Path.{_≡_};
-ghost use Prim.Native.Nat.{_+_, _*_, _<_, _≤_, _^_};
-ghost use Rattle.bits.specs.Fields.{IsField};
+ghost use Prim.Native.Nat.{_<_, _^_};
 ghost use Rattle.rows.specs.Rows.{first};
-ghost use Rattle.picture.specs.Picture.{noPicture, modesAt, pictureAt, sizeChecks, precisionChecks, modeChecks, levelChecks, fieldChecks};
+ghost use Rattle.picture.specs.Picture.{noPicture, pictureAt, sizeChecks, precisionChecks, modeChecks, levelChecks, fieldChecks};
 
 // Every field of Table A.7 behind the segment's length, in the standard's letters.
 pub struct Picture {
@@ -38,59 +37,16 @@ pub struct Picture {
     pub rm: usize,
 }
 
-// The n bits behind the first k of the byte `at`.
-pub fn bits_at(s: &[u8], at: usize, k: usize, n: usize) -> usize
-    requires { ⌜ (at < 2 ^ 60) × (k < 8) × (n ≤ 8) ⌝ }
-    ensures { λ r. ⌜ IsField (now (s .entry)) (8 * at + k) n r ⌝ }
-{
-    bits::field(s, 8 * at + k, n)
-}
-
-// The fields behind Bw, which share bytes.
-struct Modes {
-    fq: usize,
-    br: usize,
-    fslc: usize,
-    ppoc: usize,
-    cpih: usize,
-    nlx: usize,
-    nly: usize,
-    lh: usize,
-    rl: usize,
-    qpih: usize,
-    fs: usize,
-    rm: usize,
-}
-
-impl Modes {
-    fn read(s: &[u8], p: usize) -> Self
-        requires { ⌜ p < 2 ^ 32 ⌝ }
-        ensures { λ r. ⌜ r ≡ modesAt (now (s .entry)) p ⌝ }
-    {
-        Self {
-            fq: bits_at(s, p + 24, 0, 4),
-            br: bits_at(s, p + 24, 4, 4),
-            fslc: bits_at(s, p + 25, 0, 1),
-            ppoc: bits_at(s, p + 25, 1, 3),
-            cpih: bits_at(s, p + 25, 4, 4),
-            nlx: bits_at(s, p + 26, 0, 4),
-            nly: bits_at(s, p + 26, 4, 4),
-            lh: bits_at(s, p + 27, 0, 1),
-            rl: bits_at(s, p + 27, 1, 1),
-            qpih: bits_at(s, p + 27, 2, 2),
-            fs: bits_at(s, p + 27, 4, 2),
-            rm: bits_at(s, p + 27, 6, 2),
-        }
-    }
-}
-
 impl Picture {
     // The picture header whose marker stands at p.
     pub fn read(s: &[u8], p: usize) -> Self
         requires { ⌜ p < 2 ^ 32 ⌝ }
         ensures { λ r. ⌜ r ≡ pictureAt (now (s .entry)) p ⌝ }
     {
-        let m = Modes::read(s, p);
+        let bits = bits::u8_at(s, p + 24);
+        let modes = bits::u8_at(s, p + 25);
+        let levels = bits::u8_at(s, p + 26);
+        let flags = bits::u8_at(s, p + 27);
         Self {
             lcod: bits::u32_at(s, p + 4),
             ppih: bits::u16_at(s, p + 8),
@@ -103,23 +59,21 @@ impl Picture {
             ng: bits::u8_at(s, p + 21),
             ss: bits::u8_at(s, p + 22),
             bw: bits::u8_at(s, p + 23),
-            fq: m.fq,
-            br: m.br,
-            fslc: m.fslc,
-            ppoc: m.ppoc,
-            cpih: m.cpih,
-            nlx: m.nlx,
-            nly: m.nly,
-            lh: m.lh,
-            rl: m.rl,
-            qpih: m.qpih,
-            fs: m.fs,
-            rm: m.rm,
+            fq: bits / 16,
+            br: bits % 16,
+            fslc: modes / 128,
+            ppoc: modes / 16 % 8,
+            cpih: modes % 16,
+            nlx: levels / 16,
+            nly: levels % 16,
+            lh: flags / 128,
+            rl: flags / 64 % 2,
+            qpih: flags / 16 % 4,
+            fs: flags / 4 % 4,
+            rm: flags % 4,
         }
     }
-}
 
-impl Picture {
     // No picture header: all 0.
     pub fn none() -> Self
         ensures { λ r. ⌜ r ≡ noPicture ⌝ }
@@ -152,6 +106,7 @@ impl Picture {
     }
 }
 
+// Lcod to Hsl.
 fn size_row(n: usize, p: usize, h: Picture) -> Verdict
     requires { ⌜ p < 2 ^ 32 ⌝ }
     ensures { λ r. ⌜ r ≡ first (sizeChecks n p h) ⌝ }
@@ -168,6 +123,7 @@ fn size_row(n: usize, p: usize, h: Picture) -> Verdict
     ])
 }
 
+// Nc to Br.
 fn precision_row(p: usize, h: Picture) -> Verdict
     requires { ⌜ p < 2 ^ 32 ⌝ }
     ensures { λ r. ⌜ r ≡ first (precisionChecks p h) ⌝ }
@@ -190,6 +146,7 @@ fn precision_row(p: usize, h: Picture) -> Verdict
     ])
 }
 
+// Fslc to Cpih.
 fn mode_row(p: usize, h: Picture) -> Verdict
     requires { ⌜ p < 2 ^ 32 ⌝ }
     ensures { λ r. ⌜ r ≡ first (modeChecks p h) ⌝ }
@@ -209,6 +166,7 @@ fn mode_row(p: usize, h: Picture) -> Verdict
     ])
 }
 
+// NLx to Rm.
 fn level_row(p: usize, h: Picture) -> Verdict
     requires { ⌜ p < 2 ^ 32 ⌝ }
     ensures { λ r. ⌜ r ≡ first (levelChecks p h) ⌝ }

@@ -2,15 +2,15 @@
 use rows::AMPLE;
 use rows::Check;
 use rows::Field;
-use rows::HOLDS;
 use rows::Row;
 use rows::Verdict;
 ghost use mathlib.Core.Path.{_≡_};
-ghost use Prim.Native.Nat.{_+_, _-_, _<_, _≤_, _^_};
+ghost use Prim.Native.Nat.{_+_, _-_, _<_, _^_};
 ghost use lib.ListN.{length};
 ghost use Rattle.rows.specs.Rows.{first};
-ghost use Rattle.picture.specs.Segment.{segmentAt, markerChecks, lengthChecks, IsSegment};
+ghost use Rattle.picture.specs.Segment.{markerChecks, lengthChecks, IsSegment};
 
+// A segment's marker and length.
 pub struct Segment {
     // the marker's place
     pub at: usize,
@@ -31,6 +31,7 @@ pub fn left(s: &[u8], at: usize) -> usize
 }
 
 impl Segment {
+    // The segment at a place.
     pub fn read(s: &[u8], at: usize) -> Self
         requires { ⌜ at + 2 < 2 ^ 64 ⌝ }
         ensures { λ r. ⌜ IsSegment (now (s .entry)) at r ⌝ }
@@ -49,16 +50,10 @@ impl Segment {
 pub fn marker_row(g: Segment, field: Field, code: usize) -> Verdict
     ensures { λ r. ⌜ r ≡ first (markerChecks g field code) ⌝ }
 {
-    rows::first([
+    rows::two(
         Check(Row::Cut, g.at, field, g.left, 2, AMPLE),
         Check(Row::Marker, g.at, field, g.marker, code, code),
-        HOLDS,
-        HOLDS,
-        HOLDS,
-        HOLDS,
-        HOLDS,
-        HOLDS,
-    ])
+    )
 }
 
 // The length of a segment, and that it ends in the stream.
@@ -67,14 +62,9 @@ pub fn length_row(g: Segment, field: Field, least: usize, most: usize) -> Verdic
     ensures { λ r. ⌜ r ≡ first (lengthChecks g field least most) ⌝ }
 {
     let p = g.at + 2;
-    rows::first([
+    rows::three(
         Check(Row::Cut, p, field, g.rest, 2, AMPLE),
         Check(Row::Cut, p, field, g.rest, g.size, AMPLE),
         Check(Row::Value, p, field, g.size, least, most),
-        HOLDS,
-        HOLDS,
-        HOLDS,
-        HOLDS,
-        HOLDS,
-    ])
+    )
 }

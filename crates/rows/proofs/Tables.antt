@@ -38,12 +38,13 @@ each-more n f e p q = rw add-one (joined (each n f) (f n) e p q)
 
 -- ---- nothing is broken
 
-clash : {A : Type 0} {c : Check} → Refused c ≡ Fine → A
-clash e = let z : _≡_ {A = ℕ} 0 1 = cc in absurd (omega arith)
+-- a refusal is not fine
+pub refused-fine : {A : Type 0} {c : Check} → Refused c ≡ Fine → A
+refused-fine e = let z : _≡_ {A = ℕ} 0 1 = cc in absurd (omega arith)
 
 then-fine : (v w : Verdict) → then v w ≡ Fine → (v ≡ Fine) × (w ≡ Fine)
 then-fine Fine w e = (refl, e)
-then-fine (Refused c) w e = clash e
+then-fine (Refused c) w e = refused-fine e
 
 pub append-fine : (xs ys : List Check) → first (xs ++ ys) ≡ Fine → (first xs ≡ Fine) × (first ys ≡ Fine)
 append-fine xs ys e = then-fine (first xs) (first ys) (sym (first-append xs ys) ∙ e)
@@ -70,8 +71,8 @@ Held [] = Unit {0}
 Held (c ∷ cs) = Holds c × Held cs
 
 within : (c : Check) (a b : Bool) → a ≡ ltb (c .3) (c .4) → b ≡ ltb (c .5) (c .3) → (v : Verdict) → cond (a || b) (Refused c) v ≡ Fine → Holds c × (v ≡ Fine)
-within c true b p q v e = clash e
-within c false true p q v e = clash e
+within c true b p q v e = refused-fine e
+within c false true p q v e = refused-fine e
 within c false false p q v e =
     (record { least = omega (arith, ltb-false (c .3) (c .4) (sym p)); most = omega (arith, ltb-false (c .5) (c .3) (sym q)) }, e)
 
@@ -92,7 +93,7 @@ pub record FirstBroken (t : List Check) (c : Check) : Type 0 where
   pub breaks : broken c ≡ true
 
 pub first-broken : (t : List Check) (c : Check) → first t ≡ Refused c → FirstBroken t c
-first-broken [] c e = clash (sym e)
+first-broken [] c e = refused-fine (sym e)
 first-broken (d ∷ ds) c e = pick (broken d) refl (first-broken ds c)
   where
     pick : (b : Bool) → b ≡ broken d → (first ds ≡ Refused c → FirstBroken ds c) → FirstBroken (d ∷ ds) c

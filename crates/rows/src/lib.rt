@@ -176,11 +176,23 @@ pub fn first(t: [Check; 8]) -> Verdict
     Verdict::Fine
 }
 
-// A table of one check.
+// Short tables.
 pub fn one(c: Check) -> Verdict
     ensures { λ r. ⌜ r ≡ first (c ∷ []) ⌝ }
 {
     first([c, HOLDS, HOLDS, HOLDS, HOLDS, HOLDS, HOLDS, HOLDS])
+}
+
+pub fn two(a: Check, b: Check) -> Verdict
+    ensures { λ r. ⌜ r ≡ first (a ∷ b ∷ []) ⌝ }
+{
+    first([a, b, HOLDS, HOLDS, HOLDS, HOLDS, HOLDS, HOLDS])
+}
+
+pub fn three(a: Check, b: Check, c: Check) -> Verdict
+    ensures { λ r. ⌜ r ≡ first (a ∷ b ∷ c ∷ []) ⌝ }
+{
+    first([a, b, c, HOLDS, HOLDS, HOLDS, HOLDS, HOLDS])
 }
 
 // Two tables, one after the other: an earlier refusal stands.

@@ -21,7 +21,7 @@ abbrev pub depthAt : List ℕ → ℕ → ℕ → ℕ
 depthAt s p c = fieldAt s (p + 4 + 2 * c) 8
 
 abbrev pub sxAt : List ℕ → ℕ → ℕ → ℕ
-sxAt s p c = bitsAt s (p + 5 + 2 * c) 0 4
+sxAt s p c = fieldAt s (p + 5 + 2 * c) 4
 
 abbrev pub syAt : List ℕ → ℕ → ℕ → ℕ
 syAt s p c = bitsAt s (p + 5 + 2 * c) 4 4

@@ -2,9 +2,10 @@
 use crate::numbers::power;
 use crate::numbers::remainder;
 ghost use mathlib.Core.Path.{_≡_};
-ghost use Prim.Native.Nat.{_+_, _*_, _≤_, _<_};
+ghost use Prim.Native.Nat.{_≤_, _<_};
 ghost use Rattle.segments.specs.Bands.{filterTypes, exists};
 
+// The number of filter types.
 pub fn filter_types(nlx: usize, nly: usize) -> usize
     requires { ⌜ (nly ≤ nlx) × (nlx < 32) ⌝ }
     ensures { λ r. ⌜ r ≡ filterTypes nlx nly ⌝ }

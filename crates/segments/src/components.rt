@@ -5,39 +5,38 @@ use crate::numbers::less;
 use crate::numbers::power;
 use crate::numbers::remainder;
 use picture::picture::Picture;
-use picture::picture::bits_at;
 use rows::AMPLE;
 use rows::Check;
 use rows::Field;
-use rows::HOLDS;
 use rows::Row;
 use rows::Verdict;
 ghost use mathlib.Core.Path.{_≡_};
-ghost use mathlib.Core.Bool.{cond};
-ghost use Prim.Native.Nat.{_+_, _*_, _/_, _%_, _≤_, _<_, _^_};
+ghost use Prim.Native.Nat.{_+_, _*_, _%_, _<_, _^_};
 ghost use Rattle.rows.specs.Rows.{first};
 ghost use Rattle.bits.specs.Fields.{IsField};
 ghost use Rattle.picture.specs.Picture.{Built};
-ghost use Rattle.segments.specs.Components.{componentAt, widest, columnUnit, depthChecks, levelChecks, filterChecks, sxChecks, syChecks, acrossChecks, downChecks, componentChecks, componentsChecks, IsComponent};
+ghost use Rattle.segments.specs.Components.{widest, columnUnit, depthChecks, levelChecks, filterChecks, sxChecks, syChecks, acrossChecks, downChecks, componentChecks, componentsChecks, IsComponent};
 
+// A component as the table has it.
 pub struct Component {
     pub depth: usize,
     pub sx: usize,
     pub sy: usize,
 }
 
+// The sampling factors of component c of the table at p, which share a byte.
 pub fn sx_at(s: &[u8], p: usize, c: usize) -> usize
     requires { ⌜ (p < 2 ^ 32) × (c < 256) ⌝ }
-    ensures { λ r. ⌜ IsField (now (s .entry)) (8 * (p + 5 + 2 * c) + 0) 4 r ⌝ }
+    ensures { λ r. ⌜ IsField (now (s .entry)) (8 * (p + 5 + 2 * c)) 4 r ⌝ }
 {
-    bits_at(s, p + 5 + 2 * c, 0, 4)
+    bits::u8_at(s, p + 5 + 2 * c) / 16
 }
 
 pub fn sy_at(s: &[u8], p: usize, c: usize) -> usize
     requires { ⌜ (p < 2 ^ 32) × (c < 256) ⌝ }
     ensures { λ r. ⌜ IsField (now (s .entry)) (8 * (p + 5 + 2 * c) + 4) 4 r ⌝ }
 {
-    bits_at(s, p + 5 + 2 * c, 4, 4)
+    bits::u8_at(s, p + 5 + 2 * c) % 16
 }
 
 impl Component {
@@ -68,21 +67,16 @@ fn widest(s: &[u8], p: usize, n: usize) -> usize
     m
 }
 
+// Its precision.
 fn depth_row(h: Picture, place: usize, k: Component) -> Verdict
     ensures { λ r. ⌜ r ≡ first (depthChecks h place k) ⌝ }
 {
     let least = rows::choose(h.fq == 0, h.bw, 8);
     let most = rows::choose(h.fq == 0, h.bw, 16);
-    rows::first([
+    rows::two(
         Check(Row::Value, place, Field::B, k.depth, 8, 16),
         Check(Row::Value, place, Field::B, k.depth, least, most),
-        HOLDS,
-        HOLDS,
-        HOLDS,
-        HOLDS,
-        HOLDS,
-        HOLDS,
-    ])
+    )
 }
 
 // Two samples to each filter: n samples, halved from level to level.
@@ -99,6 +93,7 @@ fn filter_row(field: Field, place: usize, n: usize, levels: usize) -> Verdict
     v
 }
 
+// The filter behind d others.
 fn level_row(field: Field, place: usize, n: usize, d: usize) -> Verdict
     requires { ⌜ (n < 2 ^ 32) × (d < 32) ⌝ }
     ensures { λ r. ⌜ r ≡ first (levelChecks field place n d) ⌝ }
@@ -123,6 +118,7 @@ fn last_column(h: Picture, unit: usize) -> usize
     remainder(h.wf, 8 * h.cw * unit)
 }
 
+// The rules of sx.
 fn sx_row(h: Picture, place: usize, c: usize, m: usize, k: Component) -> Verdict
     requires { ⌜ Built h × (c < 256) × (m < 16) ⌝ }
     ensures { λ r. ⌜ r ≡ first (sxChecks h place c m k) ⌝ }
@@ -132,18 +128,14 @@ fn sx_row(h: Picture, place: usize, c: usize, m: usize, k: Component) -> Verdict
     let unit = column_unit(h, m);
     let last = last_column(h, unit);
     let least = rows::choose((c + 1 == h.nc) & (0 < h.cw), unit, 0);
-    rows::first([
+    rows::three(
         Check(Row::Value, place, Field::Sx, k.sx, 1, most),
         Check(Row::Value, place, Field::Sx, k.sx, 1, colour),
         Check(Row::Value, place, Field::Cw, last, least, AMPLE),
-        HOLDS,
-        HOLDS,
-        HOLDS,
-        HOLDS,
-        HOLDS,
-    ])
+    )
 }
 
+// All that is checked at sx.
 fn across_row(h: Picture, place: usize, c: usize, m: usize, k: Component) -> Verdict
     requires { ⌜ Built h × (c < 256) × (m < 16) × (k .sx < 16) ⌝ }
     ensures { λ r. ⌜ r ≡ first (acrossChecks h place c m k) ⌝ }
@@ -155,24 +147,21 @@ fn across_row(h: Picture, place: usize, c: usize, m: usize, k: Component) -> Ver
     )
 }
 
+// The rules of sy.
 fn sy_row(h: Picture, place: usize, k: Component) -> Verdict
     requires { ⌜ Built h ⌝ }
     ensures { λ r. ⌜ r ≡ first (syChecks h place k) ⌝ }
 {
     let colour = rows::choose(h.cpih == 1, 1, 2);
     let levels = power(h.nly);
-    rows::first([
+    rows::three(
         Check(Row::Value, place, Field::Sy, k.sy, 1, k.sx),
         Check(Row::Value, place, Field::Sy, k.sy, 1, colour),
         Check(Row::Value, place, Field::Sy, k.sy, 1, levels),
-        HOLDS,
-        HOLDS,
-        HOLDS,
-        HOLDS,
-        HOLDS,
-    ])
+    )
 }
 
+// All that is checked at sy.
 fn down_row(h: Picture, place: usize, k: Component) -> Verdict
     requires { ⌜ Built h × (k .sy < 16) ⌝ }
     ensures { λ r. ⌜ r ≡ first (downChecks h place k) ⌝ }
@@ -185,6 +174,7 @@ fn down_row(h: Picture, place: usize, k: Component) -> Verdict
     )
 }
 
+// One component.
 fn component_row(h: Picture, p: usize, c: usize, m: usize, k: Component) -> Verdict
     requires { ⌜ Built h × (p < 2 ^ 32) × (c < 256) × (m < 16) × (k .sx < 16) × (k .sy < 16) ⌝ }
     ensures { λ r. ⌜ r ≡ first (componentChecks h p c m k) ⌝ }

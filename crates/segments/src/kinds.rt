@@ -4,6 +4,7 @@ use rows::Field;
 ghost use mathlib.Core.Path.{_≡_};
 ghost use Rattle.segments.specs.Segments.{kindOf};
 
+// The kinds of segments, and the slice headers.
 pub enum Kind {
     Components,
     Weights,
@@ -18,6 +19,7 @@ pub enum Kind {
     Unknown,
 }
 
+// Table A.2.
 pub fn kind_of(marker: usize) -> Kind
     ensures { λ r. ⌜ r ≡ kindOf marker ⌝ }
 {

@@ -3,6 +3,7 @@ ghost use mathlib.Core.Path.{_≡_};
 ghost use Prim.Native.Nat.{_+_, _-_, _%_, _^_, _<_, max};
 ghost use Rattle.whole.specs.Numbers.{ceilDiv};
 
+// 2^k.
 pub fn power(k: usize) -> usize
     requires { ⌜ k < 64 ⌝ }
     ensures { λ r. ⌜ r ≡ 2 ^ k ⌝ }
@@ -25,6 +26,7 @@ pub fn ceil(a: usize, b: usize) -> usize
     if b == 0 { 0 } else { (a + (b - 1)) / b }
 }
 
+// The larger of two.
 pub fn larger(a: usize, b: usize) -> usize
     ensures { λ r. ⌜ r ≡ max a b ⌝ }
 {

@@ -15,51 +15,49 @@ use picture::segment::length_row;
 use rows::AMPLE;
 use rows::Check;
 use rows::Field;
-use rows::HOLDS;
 use rows::Row;
 use rows::Verdict;
 ghost use mathlib.Core.Path.{_≡_};
-ghost use Prim.Native.Nat.{_+_, _≤_, _<_, _^_};
+ghost use Prim.Native.Nat.{_<_, _^_};
 ghost use Rattle.rows.specs.Rows.{first};
 ghost use Rattle.picture.specs.Picture.{Built};
-ghost use Rattle.segments.specs.Segments.{headChecks, onceChecks, seenChecks, unbuiltChecks, tableChecks, weightChecks, typeAt, extensionChecks, registrationChecks, fullTail, mostSd, undecomposedChecks, sdChecks, sliceChecks, predictedChecks, checksOf, segmentChecks, Placed};
+ghost use Rattle.segments.specs.Segments.{headChecks, onceChecks, seenChecks, unbuiltChecks, tableChecks, weightChecks, extensionChecks, registrationChecks, fullTail, undecomposedChecks, sdChecks, sliceChecks, predictedChecks, checksOf, segmentChecks, Placed};
 
+// Every segment: its marker is there, and known.
 fn head_row(g: Segment) -> Verdict
     ensures { λ r. ⌜ r ≡ first (headChecks g) ⌝ }
 {
     let slice = Marker::WGR < g.marker;
     let least = rows::choose(slice, Marker::SLH, Marker::CDT);
     let most = rows::choose(slice, Marker::SLI, Marker::WGR);
-    rows::first([
+    rows::two(
         Check(Row::Cut, g.at, Field::Next, g.left, 2, AMPLE),
         Check(Row::Marker, g.at, Field::Next, g.marker, least, most),
-        HOLDS,
-        HOLDS,
-        HOLDS,
-        HOLDS,
-        HOLDS,
-        HOLDS,
-    ])
+    )
 }
 
+// Not twice.
 fn once_row(field: Field, p: usize, seen: usize) -> Verdict
     ensures { λ r. ⌜ r ≡ first (onceChecks field p seen) ⌝ }
 {
     rows::one(Check(Row::Marker, p, field, 1 + count(seen), 1, 1))
 }
 
+// Not missing.
 fn seen_row(row: Row, field: Field, p: usize, seen: usize) -> Verdict
     ensures { λ r. ⌜ r ≡ first (seenChecks row field p seen) ⌝ }
 {
     rows::one(Check(row, p, field, count(seen), 1, 1))
 }
 
+// Not built.
 fn unbuilt_row(field: Field, p: usize) -> Verdict
     ensures { λ r. ⌜ r ≡ first (unbuiltChecks field p) ⌝ }
 {
     rows::one(Check(Row::Lacking, p, field, 1, 0, 0))
 }
 
+// The component table, A.4.5.
 fn table_row(s: &[u8], h: Picture, x: Seen, g: Segment) -> Verdict
     requires { ⌜ Built h × Placed x g ⌝ }
     ensures { λ r. ⌜ r ≡ first (tableChecks (now (s .entry)) h x g) ⌝ }
@@ -71,6 +69,7 @@ fn table_row(s: &[u8], h: Picture, x: Seen, g: Segment) -> Verdict
     rows::then(once, rows::then(length, components))
 }
 
+// The weights table, A.4.12.
 fn weight_row(s: &[u8], h: Picture, x: Seen, g: Segment) -> Verdict
     requires { ⌜ Built h × Placed x g ⌝ }
     ensures { λ r. ⌜ r ≡ first (weightChecks (now (s .entry)) h x g) ⌝ }
@@ -83,6 +82,7 @@ fn weight_row(s: &[u8], h: Picture, x: Seen, g: Segment) -> Verdict
     rows::then(once, rows::then(table, rows::then(length, gains)))
 }
 
+// An extension, A.4.11.
 fn extension_row(s: &[u8], g: Segment) -> Verdict
     requires { ⌜ g .at < 2 ^ 32 ⌝ }
     ensures { λ r. ⌜ r ≡ first (extensionChecks (now (s .entry)) g) ⌝ }
@@ -97,6 +97,7 @@ fn extension_row(s: &[u8], g: Segment) -> Verdict
     )
 }
 
+// Component registration, A.4.9.
 fn registration_row(h: Picture, x: Seen, g: Segment) -> Verdict
     requires { ⌜ Built h × (g .at < 2 ^ 32) ⌝ }
     ensures { λ r. ⌜ r ≡ first (registrationChecks h x g) ⌝ }
@@ -121,6 +122,7 @@ fn full_tail(s: &[u8], cdt: usize, n: usize) -> usize
     tail
 }
 
+// Sd, of the segment that keeps components out of the wavelet.
 fn sd_row(s: &[u8], h: Picture, x: Seen, g: Segment) -> Verdict
     requires { ⌜ Built h × Placed x g ⌝ }
     ensures { λ r. ⌜ r ≡ first (sdChecks (now (s .entry)) h x g) ⌝ }
@@ -129,18 +131,14 @@ fn sd_row(s: &[u8], h: Picture, x: Seen, g: Segment) -> Verdict
     let sd = bits::u8_at(s, p);
     let tail = full_tail(s, x.cdt, h.nc);
     let most = rows::choose(x.cdt == 0, h.nc, tail);
-    rows::first([
+    rows::three(
         Check(Row::Value, p, Field::Sd, sd, 1, h.nc - 1),
         Check(Row::Value, p, Field::Sd, sd, 1, most),
         Check(Row::Lacking, p, Field::Sd, sd, 0, 0),
-        HOLDS,
-        HOLDS,
-        HOLDS,
-        HOLDS,
-        HOLDS,
-    ])
+    )
 }
 
+// That segment, A.4.7.
 fn undecomposed_row(s: &[u8], h: Picture, x: Seen, g: Segment) -> Verdict
     requires { ⌜ Built h × Placed x g ⌝ }
     ensures { λ r. ⌜ r ≡ first (undecomposedChecks (now (s .entry)) h x g) ⌝ }
@@ -152,6 +150,7 @@ fn undecomposed_row(s: &[u8], h: Picture, x: Seen, g: Segment) -> Verdict
     rows::then(once, rows::then(length, sd_row(s, h, x, g)))
 }
 
+// The first slice header, A.4.14: both tables stand before it.
 fn slice_row(x: Seen, g: Segment) -> Verdict
     ensures { λ r. ⌜ r ≡ first (sliceChecks x g) ⌝ }
 {
@@ -159,12 +158,14 @@ fn slice_row(x: Seen, g: Segment) -> Verdict
     rows::then(table, seen_row(Row::Marker, Field::Wgt, g.at, x.wgt))
 }
 
+// The same of a slice that may be predicted, A.4.15.
 fn predicted_row(x: Seen, g: Segment) -> Verdict
     ensures { λ r. ⌜ r ≡ first (predictedChecks x g) ⌝ }
 {
     rows::then(slice_row(x, g), unbuilt_row(Field::Sli, g.at))
 }
 
+// The checks of a kind.
 fn kind_row(kind: Kind, s: &[u8], h: Picture, x: Seen, g: Segment) -> Verdict
     requires { ⌜ Built h × Placed x g ⌝ }
     ensures { λ r. ⌜ r ≡ first (checksOf kind (now (s .entry)) h x g) ⌝ }

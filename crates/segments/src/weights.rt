@@ -8,10 +8,10 @@ use rows::Field;
 use rows::Row;
 use rows::Verdict;
 ghost use mathlib.Core.Path.{_≡_};
-ghost use Prim.Native.Nat.{_+_, _*_, _≤_, _<_, _^_};
+ghost use Prim.Native.Nat.{_≤_, _<_, _^_};
 ghost use Rattle.rows.specs.Rows.{first};
 ghost use Rattle.picture.specs.Picture.{Built};
-ghost use Rattle.segments.specs.Bands.{bands, existing};
+ghost use Rattle.segments.specs.Bands.{bands};
 ghost use Rattle.segments.specs.Weights.{bandIn, bandsIn, gainRow, gainChecks};
 
 // The number of bands, existing or not.
@@ -46,6 +46,7 @@ pub fn existing_bands(s: &[u8], h: Picture, cdt: usize) -> usize
     n
 }
 
+// The gain of the existing band k.
 fn gain_row(s: &[u8], p: usize, k: usize) -> Verdict
     requires { ⌜ (p < 2 ^ 32) × (k < 256) ⌝ }
     ensures { λ r. ⌜ r ≡ first (gainRow (now (s .entry)) p k) ⌝ }

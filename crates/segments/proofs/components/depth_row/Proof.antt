@@ -6,7 +6,7 @@ use Rattle.segments.proofs.components.depth_row.Tie as tie
 
 returns : tie.Need-returns
 returns c =
-    c .first .ensures ∙ rw (c .before .choose2 .ensures, c .before .before .before .choose .ensures)
+    c .two .ensures ∙ rw (c .before .choose2 .ensures, c .before .before .before .choose .ensures)
 
 pub depth-row-spec : {M : Type 1} → statement M
 depth-row-spec = tie.close (tie.spec (λ c κs. search needs) (λ c κs. search needs) (λ c κs. search needs) returns)

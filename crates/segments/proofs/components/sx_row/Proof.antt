@@ -6,7 +6,7 @@ use Rattle.segments.proofs.components.sx_row.Tie as tie
 
 returns : tie.Need-returns
 returns c =
-    c .first .ensures ∙ rw (c .before .choose3 .ensures, c .before .before .before .before .last-column .ensures, c .before .before .before .before .before .column-unit .ensures .0, c .before .before .before .before .before .before .choose2 .ensures, c .before .before .before .before .before .before .before .before .choose .ensures)
+    c .three .ensures ∙ rw (c .before .choose3 .ensures, c .before .before .before .before .last-column .ensures, c .before .before .before .before .before .column-unit .ensures .0, c .before .before .before .before .before .before .choose2 .ensures, c .before .before .before .before .before .before .before .before .choose .ensures)
 
 pub sx-row-spec : {M : Type 1} → statement M
 sx-row-spec =

@@ -6,7 +6,7 @@ use Rattle.segments.proofs.components.sy_row.Tie as tie
 
 returns : tie.Need-returns
 returns c =
-    c .first .ensures ∙ rw (c .before .power .ensures, c .before .before .choose .ensures)
+    c .three .ensures ∙ rw (c .before .power .ensures, c .before .before .choose .ensures)
 
 pub sy-row-spec : {M : Type 1} → statement M
 sy-row-spec = tie.close (tie.spec (λ c κs. search needs) (λ c κs. search needs) (λ c κs. search needs) returns)

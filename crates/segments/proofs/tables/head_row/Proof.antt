@@ -6,7 +6,7 @@ use Rattle.segments.proofs.tables.head_row.Tie as tie
 
 returns : tie.Need-returns
 returns c =
-    c .first .ensures ∙ rw (c .before .choose2 .ensures, c .before .before .choose .ensures)
+    c .two .ensures ∙ rw (c .before .choose2 .ensures, c .before .before .choose .ensures)
 
 pub head-row-spec : {M : Type 1} → statement M
 head-row-spec = tie.close (tie.spec (λ c κs. search needs) (λ c κs. search needs) (λ c κs. search needs) returns)

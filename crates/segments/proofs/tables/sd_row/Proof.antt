@@ -6,7 +6,7 @@ use Rattle.segments.proofs.tables.sd_row.Tie as tie
 
 returns : tie.Need-returns
 returns c =
-    c .first .ensures ∙ rw (c .before .before .choose .ensures, c .before .before .before .before .full-tail .ensures, c .before .before .before .before .before .u8-at .ensures .value)
+    c .three .ensures ∙ rw (c .before .before .choose .ensures, c .before .before .before .before .full-tail .ensures, c .before .before .before .before .before .u8-at .ensures .value)
 
 pub sd-row-spec : {M : Type 1} → statement M
 sd-row-spec =

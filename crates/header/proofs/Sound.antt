@@ -9,13 +9,12 @@ use lib.Dec.{eqb, ltb}
 use lib.ListN.{length}
 use Rattle.bits.specs.Fields.{fieldAt}
 use Rattle.rows.specs.Rows.{check, first}
-use Rattle.rows.specs.declared.Check.{Check}
 use Rattle.rows.specs.declared.Field.{Field}
 use Rattle.rows.specs.declared.Field.the-variants.{Soc, Nlt, Cdt, Wgt, Cts, Tpc, Wgr, Sli, Lcdt, Lwgt}
 use Rattle.rows.specs.declared.Row.the-variants.{Marker, Lacking}
 use Rattle.rows.specs.declared.Verdict.{Verdict}
 use Rattle.rows.specs.declared.Verdict.the-variants.{Fine, Refused}
-use Rattle.rows.proofs.Tables.{append-fine, held}
+use Rattle.rows.proofs.Tables.{append-fine, held, refused-fine}
 use Rattle.picture.specs.Markers.{CDT, WGT, COM, NLT, CWD, CTS, CRG, TPC, WGR, SLH, SLI}
 use Rattle.picture.specs.Opening.{picturePlace, openingChecks, Opened}
 use Rattle.picture.specs.Picture.{pictureAt}
@@ -28,11 +27,12 @@ use Rattle.segments.specs.Weights.{bandsIn, gainChecks}
 use Rattle.segments.specs.declared.kinds.Kind.{Kind}
 use Rattle.segments.specs.declared.kinds.Kind.the-variants.{Components, Weights, Extension, Undecomposed, Registration, Unbuilt, Slice, Predicted, Unknown}
 use Rattle.segments.specs.declared.seen.Seen.{Seen}
-use Rattle.header.specs.Header.{headerIn, walkBy, headerBy, walkOf, readingOf, Accepted}
+use Rattle.header.specs.Accepted.{Accepted}
+use Rattle.header.specs.Header.{headerIn, walkBy, headerBy, walkOf, readingOf}
 use Rattle.header.specs.Walk.{ended, accepted, judged, step, turn, begun, walk, Inside}
 use Rattle.header.specs.declared.walk.Walk.{Walk}
 use Rattle.header.proofs.Ranges.{sampled-at, columns-at, gains-at}
-use Rattle.header.proofs.Steps.{turn-on, turn-end, bound-unused, step-inside}
+use Rattle.header.proofs.Steps.{clash, turn-on, turn-end, bound-unused, step-inside}
 use Rattle.header.proofs.Until.{Keeps, until-keeps}
 use Rattle.header.proofs.Whole.{opening-fine}
 
@@ -126,12 +126,6 @@ record Sound (s : List ℕ) (h : Picture) (w : Walk) : Type 0 where
   weights : (w .seen .wgt ≡ 0 → ⊥) → (w .seen .cdt ≡ 0 → ⊥) × (first (gainChecks s (w .seen .wgt) (bandsIn s h (w .seen .cdt))) ≡ Fine)
   end : w .done ≡ true → w .verdict ≡ Fine → End s w
 
-clash : {A : Type 0} → false ≡ true → A
-clash e = let z : _≡_ {A = ℕ} 0 1 = cc in absurd (omega arith)
-
-refused : {A : Type 0} {c : Check} → Refused c ≡ Fine → A
-refused e = let z : _≡_ {A = ℕ} 0 1 = cc in absurd (omega arith)
-
 module _ (s : List ℕ) (h : Picture) (w : Walk) (i : Sound s h w) where
   abbrev p : ℕ
   p = w .at
@@ -146,7 +140,7 @@ module _ (s : List ℕ) (h : Picture) (w : Walk) (i : Sound s h w) where
       let size = lengthChecks (segmentAt s p) Lcdt n n in
       let parts = append-fine (onceChecks Cdt p (x .cdt)) (size ++ componentsChecks s h p) e in
       let none = not-counted (x .cdt) (held (onceChecks Cdt p (x .cdt)) (parts .0) .0 .most) in
-      record { table = λ _. append-fine size (componentsChecks s h p) (parts .1) .1; weights = λ n. absurd (i .weights n .0 none); end = λ d _. clash d }
+      record { table = λ _. append-fine size (componentsChecks s h p) (parts .1) .1; weights = λ n. absurd (i .weights n .0 none); end = λ d _. clash (sym d) }
   accepted-sound Weights m head e =
       let n = bandsIn s h (x .cdt) in
       let size = lengthChecks (segmentAt s p) Lwgt (2 + 2 * n) (2 + 2 * n) in
@@ -156,11 +150,11 @@ module _ (s : List ℕ) (h : Picture) (w : Walk) (i : Sound s h w) where
       record {
         table = i .table;
         weights = λ _. (is-counted (x .cdt) (held seen (e2 .0) .0 .least), append-fine size (gainChecks s p n) (e2 .1) .1);
-        end = λ d _. clash d;
+        end = λ d _. clash (sym d);
       }
-  accepted-sound Extension m head e = record { table = i .table; weights = i .weights; end = λ d _. clash d }
-  accepted-sound Undecomposed m head e = record { table = i .table; weights = i .weights; end = λ d _. clash d }
-  accepted-sound Registration m head e = record { table = i .table; weights = i .weights; end = λ d _. clash d }
+  accepted-sound Extension m head e = record { table = i .table; weights = i .weights; end = λ d _. clash (sym d) }
+  accepted-sound Undecomposed m head e = record { table = i .table; weights = i .weights; end = λ d _. clash (sym d) }
+  accepted-sound Registration m head e = record { table = i .table; weights = i .weights; end = λ d _. clash (sym d) }
   accepted-sound (Unbuilt f) m head e = absurd (unbuilt f e)
     where
       unbuilt : (f : Field) → first (unbuiltChecks f p) ≡ Fine → ⊥
@@ -193,7 +187,7 @@ module _ (s : List ℕ) (h : Picture) (w : Walk) (i : Sound s h w) where
   judged-sound : (v : Verdict) (k : Kind) → Coded (fieldAt s p 16) k
       → (v ≡ Fine → (first (headChecks (segmentAt s p)) ≡ Fine) × (first (checksOf k s h x (segmentAt s p)) ≡ Fine)) → Sound s h (judged v k s (segmentAt s p) x)
   judged-sound Fine k m f = accepted-sound k m (f refl .0) (f refl .1)
-  judged-sound (Refused c) k m f = record { table = i .table; weights = i .weights; end = λ _ e. refused e }
+  judged-sound (Refused c) k m f = record { table = i .table; weights = i .weights; end = λ _ e. refused-fine e }
 
   step-sound : Sound s h (step s h w)
   unfolding step
@@ -230,8 +224,8 @@ module _ (s : List ℕ) (h : Picture) where
   unfolding never
   walk-sound p =
       walk-keeps (Sound s h) (step-sound s h)
-      (record { table = λ n. absurd (n refl); weights = λ n. absurd (n refl); end = λ _ e. refused e }) p
-      (record { table = λ n. absurd (n refl); weights = λ n. absurd (n refl); end = λ d _. clash d }) .0
+      (record { table = λ n. absurd (n refl); weights = λ n. absurd (n refl); end = λ _ e. refused-fine e }) p
+      (record { table = λ n. absurd (n refl); weights = λ n. absurd (n refl); end = λ d _. clash (sym d) }) .0
 
   walk-inside : (p : ℕ) → p ≤ length s → Inside s (walk s h p)
   unfolding never
