@@ -23,11 +23,11 @@ use Rattle.layout.specs.Precincts.{largest}
 use Rattle.layout.specs.Built.{Sampled, Built}
 use Rattle.layout.proofs.Columns.{largest-past}
 use Rattle.header.specs.Walk.{walk}
-use Rattle.header.specs.Header.{four, noComponent, componentOf, headerIn, headerBy, walkOf, readingOf, Ranges}
-use Rattle.header.specs.Header.{largest as listLargest}
+use Rattle.header.specs.Header.{four, noComponent, componentOf, headerIn, headerBy, walkOf, readingOf}
+use Rattle.header.specs.Accepted.{largest as listLargest, Ranges}
 use Rattle.header.specs.declared.walk.Walk.{Walk}
 use Rattle.header.proofs.Ranges.{four-at}
-use Rattle.header.proofs.Accepted.{accepted-header}
+use Rattle.header.proofs.Sound.{accepted-header}
 use Rattle.shapes.specs.Shapes.{shapeOf}
 
 -- ---- entries past the components are 0
