@@ -11,8 +11,8 @@ use lib.Dec.{eqb}
 use lib.IntN.{ℤ, pos}
 use lib.ListN.{length, set, length-set}
 use lib.Seq.{getD-set-same, getD-set-other}
-use Rattle.loops.specs.Run.{Turn, go, stop, then, run}
-use Rattle.loops.proofs.Laws.{Kept}
+use Rattle.loops.specs.Run.{Turn, go, stop, run}
+use Rattle.loops.proofs.Laws.{Kept, run-carries}
 use Rattle.whole.specs.Cells.{cell}
 use Rattle.counts.specs.Lines.{packed, heldM, heldT, groups, countCell, nibbles, State, Left, stored, unpack, turn, end, lineCounts, Ready}
 use Rattle.counts.specs.declared.group.Coding.{Coding}
@@ -21,21 +21,6 @@ use Rattle.counts.specs.declared.group.Group.the-variants.{Count, Cut as
 use Rattle.counts.specs.declared.Place.{Place}
 use Rattle.counts.specs.declared.Line.the-variants.{Done, Cut, High}
 use Rattle.counts.proofs.Lines.{Sound, unpack-sound, nibbles-few, cell-inside}
-
--- ---- loops: what holds after g turns, carried from turn to turn to the end
-pub run-carries : {S R : Type 0} (P : ℕ → S → Type 0) (Q : R → Type 0) (turn : ℕ → S → Turn S R) (end : S → R) (n : ℕ)
-    → ((x : S) → P n x → Q (end x)) → ((g : ℕ) (x : S) → g < n → P g x → Kept (P (g + 1)) Q (turn g x))
-    → (left g : ℕ) (x : S) → g + left ≡ n → P g x → Q (run turn end left g x)
-unfolding run
-run-carries P Q turn end n at-end each zero g x h p =
-    let e : g ≡ n = omega arith in
-    at-end x (rw e at p)
-run-carries {S} {R} P Q turn end n at-end each (suc left) g x h p =
-    pick (turn g x) (each g x (omega arith) p) (λ y. run-carries P Q turn end n at-end each left (g + 1) y (omega arith))
-  where
-    pick : (t : Turn S R) → Kept (P (g + 1)) Q t → ((y : S) → P (g + 1) y → Q (run turn end left (g + 1) y)) → Q (then t (λ y. run turn end left (g + 1) y) (λ r. r))
-    pick (go y) h ih = ih y h
-    pick (stop r) h ih = h
 
 -- ---- a count cell: M and T come back from what it holds
 pub held-m : (m t : ℕ) → m ≤ 31 → heldM (packed m t) ≡ m

@@ -1,5 +1,3 @@
-pub mod Until
-pub mod Lists
 pub mod Steps
 pub mod Whole
 pub mod Ranges

@@ -8,6 +8,8 @@ use native.Mathlib.Omega.{arith}
 use borrow.Author.Tests.{lt-ltb, le-ltb, ltb-true, eq-eqb}
 use lib.Dec.{eqb, ltb, lit≤}
 use lib.ListN.{getD}
+use Rattle.whole.specs.Cells.{listed}
+use Rattle.whole.proofs.Lists.{listed-at, listed-past}
 use Rattle.rows.specs.Rows.{first}
 use Rattle.rows.specs.declared.Field.the-variants.{Sx, Sy}
 use Rattle.rows.specs.declared.Verdict.the-variants.{Fine}
@@ -20,8 +22,7 @@ use Rattle.segments.specs.Weights.{bandIn, bandsIn, gainAt, gainRow, gainChecks
 use Rattle.segments.specs.declared.components.Component.{Component}
 use Rattle.segments.proofs.NumberLaws.{cond-le}
 use Rattle.header.specs.Accepted.{largest, Sampled}
-use Rattle.header.specs.Header.{four, listed, componentOf, bandIs, gainOf}
-use Rattle.header.proofs.Lists.{listed-at, listed-past}
+use Rattle.header.specs.Header.{four, componentOf, bandIs, gainOf}
 
 -- ---- a component
 
@@ -167,5 +168,5 @@ module _ (s : List ℕ) (h : Picture) (cdt wgt : ℕ) (e : first (gainChecks s w
   gains-at b = pick (decLt b 40)
     where
       pick : Dec (b < 40) → getD (listed 40 (gainOf s h cdt wgt)) b 0 ≤ 15
-      pick (yes l) = rw (listed-at 40 (gainOf s h cdt wgt) b l) (gain-le b)
-      pick (no l) = rw (listed-past 40 (gainOf s h cdt wgt) b (omega arith)) zero-le
+      pick (yes l) = rw (listed-at 40 (gainOf s h cdt wgt) 0 b l) (gain-le b)
+      pick (no l) = rw (listed-past 40 (gainOf s h cdt wgt) 0 b (omega arith)) zero-le

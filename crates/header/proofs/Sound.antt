@@ -33,7 +33,7 @@ use Rattle.header.specs.Walk.{ended, accepted, judged, step, turn, begun
 use Rattle.header.specs.declared.walk.Walk.{Walk}
 use Rattle.header.proofs.Ranges.{sampled-at, columns-at, gains-at}
 use Rattle.header.proofs.Steps.{clash, turn-on, turn-end, bound-unused, step-inside}
-use Rattle.header.proofs.Until.{Keeps, until-keeps}
+use Rattle.loops.proofs.Laws.{Kept, until-keeps}
 use Rattle.header.proofs.Whole.{opening-fine}
 
 -- ---- kinds and markers
@@ -200,10 +200,10 @@ module _ (s : List ℕ) (h : Picture) (w : Walk) (i : Sound s h w) where
 
 module _ (s : List ℕ) (h : Picture) where
   -- what each step keeps, the walk keeps
-  turn-keeps : (P : Walk → Type 0) → ((w : Walk) → P w → P (step s h w)) → (w : Walk) → P w → Keeps P (λ w. P w × (w .done ≡ true)) (turn s h w)
+  turn-keeps : (P : Walk → Type 0) → ((w : Walk) → P w → P (step s h w)) → (w : Walk) → P w → Kept P (λ w. P w × (w .done ≡ true)) (turn s h w)
   turn-keeps P each w i = pick (w .done) refl
     where
-      pick : (b : Bool) → b ≡ w .done → Keeps P (λ w. P w × (w .done ≡ true)) (turn s h w)
+      pick : (b : Bool) → b ≡ w .done → Kept P (λ w. P w × (w .done ≡ true)) (turn s h w)
       pick true d = rw (turn-end s h w (sym d)) (i, sym d)
       pick false d = rw (turn-on s h w (sym d)) (each w i)
 

@@ -27,7 +27,7 @@ use Rattle.segments.specs.declared.seen.Seen.{Seen}
 use Rattle.segments.proofs.NumberLaws.{cond-le}
 use Rattle.header.specs.Walk.{captionOf, ended, accepted, judged, step, turn, begun, walkOr, walk, Inside}
 use Rattle.header.specs.declared.walk.Walk.{Walk}
-use Rattle.header.proofs.Until.{Falls, until-free}
+use Rattle.loops.proofs.Laws.{Falls, until-free}
 
 -- a test has one result
 pub clash : {A : Type 0} → true ≡ false → A

@@ -5,6 +5,7 @@ use mathlib.Core.List.{List, [], _∷_, _++_}
 use mathlib.Core.Path.{_≡_}
 use lib.Dec.{ltb}
 use lib.ListN.{length, take, drop, replicate}
+use Rattle.whole.specs.Cells.{listed}
 use Rattle.rows.specs.Rows.{first}
 use Rattle.rows.specs.declared.Verdict.{Verdict}
 use Rattle.rows.specs.declared.Verdict.the-variants.{Fine, Refused}
@@ -27,10 +28,6 @@ use Rattle.header.specs.declared.weights.Weights.{Weights}
 -- the numbers of an index, from 0 on
 abbrev pub four : (ℕ → ℕ) → List ℕ
 four f = f 0 ∷ f 1 ∷ f 2 ∷ f 3 ∷ []
-
-unfoldable pub listed : ℕ → (ℕ → ℕ) → List ℕ
-listed zero f = []
-listed (suc n) f = listed n f ++ (f n ∷ [])
 
 -- component c by the component table: 0 where there is none
 abbrev pub noComponent : Component

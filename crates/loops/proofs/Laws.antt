@@ -43,22 +43,30 @@ module _ {S R : Type 0} {turn : ℕ → S → Turn S R} {end : S → R} {n g : �
   pub ends : Going turn end n x₀ g x → n ≤ g → run turn end n 0 x₀ ≡ end x
   ends inv h = inv .same ∙ run-end turn end n g x h
 
--- what each turn keeps, the whole keeps
+-- ---- a counting loop as a whole: what each turn keeps, from turn to turn, the whole keeps
 abbrev pub Kept : {S R : Type 0} → (S → Type 0) → (R → Type 0) → Turn S R → Type 0
 Kept P Q (go y) = P y
 Kept P Q (stop r) = Q r
 
+pub run-carries : {S R : Type 0} (P : ℕ → S → Type 0) (Q : R → Type 0) (turn : ℕ → S → Turn S R) (end : S → R) (n : ℕ)
+    → ((x : S) → P n x → Q (end x)) → ((g : ℕ) (x : S) → g < n → P g x → Kept (P (g + 1)) Q (turn g x))
+    → (left g : ℕ) (x : S) → g + left ≡ n → P g x → Q (run turn end left g x)
+unfolding run
+run-carries P Q turn end n at-end each zero g x h p =
+    let e : g ≡ n = omega arith in
+    at-end x (rw e at p)
+run-carries {S} {R} P Q turn end n at-end each (suc left) g x h p =
+    pick (turn g x) (each g x (omega arith) p) (λ y. run-carries P Q turn end n at-end each left (g + 1) y (omega arith))
+  where
+    pick : (t : Turn S R) → Kept (P (g + 1)) Q t → ((y : S) → P (g + 1) y → Q (run turn end left (g + 1) y)) → Q (then t (λ y. run turn end left (g + 1) y) (λ r. r))
+    pick (go y) h ih = ih y h
+    pick (stop r) h ih = h
+
+-- where that speaks of the state alone
 pub run-keeps : {S R : Type 0} (P : S → Type 0) (Q : R → Type 0) (turn : ℕ → S → Turn S R) (end : S → R) (n : ℕ)
     → ((x : S) → P x → Q (end x)) → ((g : ℕ) (x : S) → g < n → P x → Kept P Q (turn g x))
     → (left g : ℕ) (x : S) → g + left ≤ n → P x → Q (run turn end left g x)
-unfolding run
-run-keeps P Q turn end n at-end each zero g x h p = at-end x p
-run-keeps {S} {R} P Q turn end n at-end each (suc left) g x h p =
-    pick (turn g x) (each g x (omega arith) p) (λ y. run-keeps P Q turn end n at-end each left (g + 1) y (omega arith))
-  where
-    pick : (t : Turn S R) → Kept P Q t → ((y : S) → P y → Q (run turn end left (g + 1) y)) → Q (then t (λ y. run turn end left (g + 1) y) (λ r. r))
-    pick (go y) h ih = ih y h
-    pick (stop r) h ih = h
+run-keeps P Q turn end n at-end each left g x h p = run-carries (λ _. P) Q turn end (g + left) at-end (λ i y l. each i y (omega arith)) left g x refl p
 
 -- ---- a loop that does not count: the fuel left is more than the measure of the state
 pub record Looping {S R : Type 0} (measure : S → ℕ) (turn : S → Turn S R) (dead : R) (fuel : ℕ) (x₀ x : S) : Type 0 where
@@ -89,3 +97,33 @@ module _ {S R : Type 0} {measure : S → ℕ} {turn : S → Turn S R} {dead : R}
 
   pub loop-stops : {r : R} → Looping measure turn dead fuel x₀ x → turn x ≡ stop r → until turn dead fuel x₀ ≡ r
   loop-stops inv f = inv .same ∙ last turn dead x (inv .left) (omega (arith, inv .enough)) f
+
+-- ---- such a loop as a whole
+
+-- a turn that goes on lessens the measure
+abbrev pub Falls : {S R : Type 0} → (S → ℕ) → ℕ → Turn S R → Type 0
+Falls measure m (go y) = measure y < m
+Falls measure m (stop r) = Unit {0}
+
+-- a loop whose measure falls does not come to its bound: what stands there makes no difference
+pub until-free : {S R : Type 0} (measure : S → ℕ) (turn : S → Turn S R) → ((x : S) → Falls measure (measure x) (turn x))
+    → (d e : R) (fuel : ℕ) (x : S) → measure x < fuel → until turn d fuel x ≡ until turn e fuel x
+unfolding until
+until-free measure turn falls d e zero x h = absurd (omega arith)
+until-free {S} {R} measure turn falls d e (suc fuel) x h = pick (turn x) (falls x) (until-free measure turn falls d e fuel)
+  where
+    pick : (t : Turn S R) → Falls measure (measure x) t → ((y : S) → measure y < fuel → until turn d fuel y ≡ until turn e fuel y)
+        → then t (λ y. until turn d fuel y) (λ r. r) ≡ then t (λ y. until turn e fuel y) (λ r. r)
+    pick (go y) f later = later y (omega arith)
+    pick (stop r) f later = refl
+
+-- what each turn keeps, the whole keeps
+pub until-keeps : {S R : Type 0} (P : S → Type 0) (Q : R → Type 0) (turn : S → Turn S R) (dead : R) → Q dead → ((x : S) → P x → Kept P Q (turn x))
+    → (fuel : ℕ) (x : S) → P x → Q (until turn dead fuel x)
+unfolding until
+until-keeps P Q turn dead q each zero x p = q
+until-keeps {S} {R} P Q turn dead q each (suc fuel) x p = pick (turn x) (each x p) (until-keeps P Q turn dead q each fuel)
+  where
+    pick : (t : Turn S R) → Kept P Q t → ((y : S) → P y → Q (until turn dead fuel y)) → Q (then t (λ y. until turn dead fuel y) (λ r. r))
+    pick (go y) k later = later y k
+    pick (stop r) k later = k

@@ -14,7 +14,8 @@ use Rattle.rows.specs.declared.Verdict.the-variants.{Fine, Refused}
 use Rattle.quantiser.specs.Inverse.{coefficientOf, scaled, Carried}
 use Rattle.layout.specs.Cells.{start}
 use Rattle.layout.specs.Slots.{candidates}
-use Rattle.counts.proofs.Laws.{run-carries, line-length as counts-length}
+use Rattle.loops.proofs.Laws.{run-carries}
+use Rattle.counts.proofs.Laws.{line-length as counts-length}
 use Rattle.values.specs.declared.Next.{Next}
 use Rattle.values.specs.Group.{countIn}
 use Rattle.values.specs.Line.{countPlace, M, indexAt, lineValues}

@@ -22,7 +22,7 @@ pub fn truncation_of(c: Setting, p: Precinct, b: usize) -> usize
 {
     let gains = c.gains;
     let priorities = c.priorities;
-    let gain = gains[b];
-    let priority = priorities[b];
+    let gain = gains[b] as usize;
+    let priority = priorities[b] as usize;
     layout::headers::truncation_of(p.q, p.r, gain, priority, c.br)
 }

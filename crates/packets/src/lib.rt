@@ -34,8 +34,8 @@ pub struct Setting {
     pub fs: bool,
     pub rm: bool,
     pub rl: bool,
-    pub gains: [usize; 40],
-    pub priorities: [usize; 40],
+    pub gains: [u8; 40],
+    pub priorities: [u8; 40],
 }
 
 // A precinct whose header is accepted: its row and column, the place of its header and the one past its last byte, Q[p] and R[p].

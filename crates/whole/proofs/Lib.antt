@@ -1,5 +1,6 @@
--- Laws of whole numbers, each once.
+-- Laws of whole numbers, and of lists, each once.
 pub mod Linear
 pub mod Machine
 pub mod Within
 pub mod Passes
+pub mod Lists

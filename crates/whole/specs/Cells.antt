@@ -1,6 +1,6 @@
--- Lists of whole numbers, as a lent slice of i64 holds them.
-use mathlib.Core.List.{List, [], _∷_}
-use Prim.Native.Nat.{ℕ, suc, _≤_, _<_}
+-- Lists: of whole numbers, as a lent slice of i64 holds them, and of what an index gives.
+use mathlib.Core.List.{List, [], _∷_, _++_}
+use Prim.Native.Nat.{ℕ, zero, suc, _≤_, _<_}
 use lib.IntN.{ℤ, pos, natAbs}
 use lib.ListN.{length, getD}
 
@@ -16,3 +16,8 @@ pub record Bounded (B : ℕ) (l : List ℤ) : Type 0 where
 unfoldable pub mapAt {ℓ} : {A : Type ℓ} → (ℕ → A → A) → List A → List A
 mapAt g [] = []
 mapAt g (x ∷ xs) = g 0 x ∷ mapAt (λ n. g (suc n)) xs
+
+-- f 0, f 1, .., f (n − 1)
+unfoldable pub listed : {A : Type 0} → ℕ → (ℕ → A) → List A
+listed zero f = []
+listed (suc n) f = listed n f ++ (f n ∷ [])

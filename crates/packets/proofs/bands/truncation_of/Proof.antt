@@ -1,18 +1,13 @@
 -- `packets::bands::truncation_of` meets its contract. Assumes nothing.
+use borrow.Author.Needs.{needs}
 use native.Mathlib.Omega.{arith}
 use Rattle.layout.proofs.Sums.{bands-most}
 use Rattle.packets.proofs.LinePasses.{truncation-is}
 use Rattle.packets.proofs.bands.truncation_of.Statement.{statement}
 use Rattle.packets.proofs.bands.truncation_of.Tie as tie
 
-mul-gain : tie.Need-mul-gain
-mul-gain c = omega (arith, bands-most _ (c .before .before .pre .0 .shape), c .before .before .pre .1)
-
 array-read-gain : tie.Need-array-read-gain
 array-read-gain c = omega (arith, bands-most _ (c .before .before .pre .0 .shape), c .before .before .pre .1)
-
-mul-priority : tie.Need-mul-priority
-mul-priority c = omega (arith, bands-most _ (c .before .before .pre .0 .shape), c .before .before .pre .1)
 
 array-read-priority : tie.Need-array-read-priority
 array-read-priority c = omega (arith, bands-most _ (c .before .before .pre .0 .shape), c .before .before .pre .1)
@@ -27,9 +22,9 @@ pub truncation-of-spec : {M : Type 1} → statement M
 truncation-of-spec =
     tie.close
     (tie.spec
-    mul-gain
     array-read-gain
-    mul-priority
+    (λ c. search needs)
     array-read-priority
+    (λ c. search needs)
     truncation-of-requires
     returns)

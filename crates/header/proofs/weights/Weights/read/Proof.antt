@@ -10,7 +10,7 @@ use Rattle.segments.specs.Weights.{gainAt, priorityAt}
 use Rattle.segments.proofs.BandLaws.{existing-more}
 use Rattle.segments.proofs.NumberLaws.{cond-le}
 use Rattle.header.specs.Header.{bandIs, gainOf, priorityOf}
-use Rattle.header.proofs.Lists.{Filled, filled-none, filled-more, filled-all}
+use Rattle.whole.proofs.Lists.{Filled, filled-none, filled-more, filled-all}
 use borrow.Author.Needs.{needs}
 use Rattle.header.proofs.weights.Weights.read.Statement.{statement}
 use Rattle.header.proofs.weights.Weights.read.Tie as tie

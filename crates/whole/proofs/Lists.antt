@@ -1,0 +1,52 @@
+-- An array that a loop fills with the numbers of an index. Assumes nothing.
+use Prim.Native.Nat.{ℕ, zero, suc, _+_, _≤_, _<_}
+use mathlib.Core.List.{List, [], _∷_, _++_}
+use mathlib.Core.Path.{_≡_, refl, sym, _∙_}
+use native.Mathlib.Decide.{decLt}
+use native.Mathlib.Numerals.{add-one}
+use native.Mathlib.Omega.{arith}
+use lib.ListN.{length, take, getD, set, length-set, length-append, List·getD-append, List·getD-eq-default}
+use lib.Seq.{take-all, take-suc-set, getD-append-seam}
+use Rattle.whole.specs.Cells.{listed}
+
+-- the first b of n elements are those of f
+pub record Filled {A : Type 0} (n b : ℕ) (f : ℕ → A) (xs : List A) : Type 0 where
+  pub long : length xs ≡ n
+  pub same : take b xs ≡ listed b f
+
+pub filled-none : {A : Type 0} {n : ℕ} {f : ℕ → A} {xs : List A} → length xs ≡ n → Filled n 0 f xs
+unfolding listed
+filled-none e = record { long = e; same = refl }
+
+pub filled-more : {A : Type 0} {n b : ℕ} {v : A} {f : ℕ → A} {xs : List A} → Filled n b f xs → b < n → v ≡ f b → Filled n (b + 1) f (set xs b v)
+unfolding listed
+filled-more {A} {n} {b} {v} {f} {xs} x h e =
+    let l : b < length xs = omega (arith, x .long) in
+    record { long = simp length-set (x .long); same = rw (add-one, take-suc-set xs b v l, x .same, e) }
+
+pub filled-all : {A : Type 0} {n b : ℕ} {f : ℕ → A} {xs : List A} → Filled n b f xs → b ≡ n → xs ≡ listed n f
+filled-all {A} {n} {b} {f} {xs} x e =
+    let l : length xs ≤ b = omega (arith, x .long) in
+    sym (take-all b xs l) ∙ x .same ∙ (λ i. listed (e i) f)
+
+-- ---- its elements
+
+pub listed-length : {A : Type 0} (n : ℕ) (f : ℕ → A) → length (listed n f) ≡ n
+unfolding listed
+listed-length zero f = refl
+listed-length (suc n) f = simp (length-append, listed-length n f) (omega arith)
+
+pub listed-at : {A : Type 0} (n : ℕ) (f : ℕ → A) (d : A) (b : ℕ) → b < n → getD (listed n f) b d ≡ f b
+unfolding listed
+listed-at zero f d b h = absurd (omega arith)
+listed-at (suc n) f d b h = pick (decLt b n) (listed-at n f d b)
+  where
+    pick : Dec (b < n) → (b < n → getD (listed n f) b d ≡ f b) → getD (listed n f ++ (f n ∷ [])) b d ≡ f b
+    pick (yes l) before = List·getD-append (listed n f) (f n ∷ []) d b (omega (arith, listed-length n f)) ∙ before l
+    pick (no l) before =
+        let q : b ≡ length (listed n f) = omega (arith, listed-length n f) in
+        let r : n ≡ b = omega arith in
+        (λ i. getD (listed n f ++ (f n ∷ [])) (q i) d) ∙ getD-append-seam (listed n f) (f n) [] d ∙ (λ i. f (r i))
+
+pub listed-past : {A : Type 0} (n : ℕ) (f : ℕ → A) (d : A) (b : ℕ) → n ≤ b → getD (listed n f) b d ≡ d
+listed-past n f d b h = List·getD-eq-default (listed n f) d (omega (arith, listed-length n f))
