@@ -22,13 +22,13 @@ use Rattle.layout.proofs.Existing.{band-has, has-band, type-known}
 -- ---- rows of W cells
 
 module _ (W r c : ℕ) (h : c < W) where
-  row-of-cell : (r * W + c) / W ≡ r
+  pub row-of-cell : (r * W + c) / W ≡ r
   row-of-cell = mul-add-div-right (omega arith) r c ∙ ap (λ (n : ℕ). r + n) (div-eq-of-lt h) ∙ omega arith
 
-  column-of-cell : (r * W + c) % W ≡ c
+  pub column-of-cell : (r * W + c) % W ≡ c
   column-of-cell = mul-add-mod-self-right r W c ∙ mod-eq-of-lt h
 
-  cell-below : (H : ℕ) → r < H → r * W + c < W * H
+  pub cell-below : (H : ℕ) → r < H → r * W + c < W * H
   cell-below H k = omega (arith, mul-le-mul-right W k, suc-mul r W, mul-comm H W)
 
 -- a coefficient stands inside its component
