@@ -103,7 +103,8 @@ module _ {s : Shape} {Cpih : ℕ} (built : Built s) (colours : Colours s Cpih) w
       → (i x y : ℕ) → Inside s i x y → natAbs (coloured Cpih v i x y) ≤ n i
   unfolding inverseRct
   coloured-size {e} {n} behind v given i x y p =
-      size-of-within (rw (zeros (ℕ-discrete Cpih 1)) at (coloured-within behind v (λ _ _ _. pos 0) i x y p (λ k q. within-of-size (v k x y) (given k x y q))))
+      size-of-within
+      (rw (zeros (ℕ-discrete Cpih 1)) at (coloured-within behind v (λ _ _ _. pos 0) i x y p (λ k q. within-of-size (v k x y) (given k x y q))))
     where
       part-zero : (i : ℕ) → partOf (inverseRct (pixelAt (λ _ _ _. pos 0) x y)) (pos 0) i ≡ pos 0
       part-zero zero = refl

@@ -37,7 +37,8 @@ module _ {s : Shape} {l : List ℤ} (ready : Ready s (2 ^ 40) l) where
             (λ c r hc hr. ready .small i c r (record { component = p .component; column = hc; row = hr })) x y (p .column) (p .row),
       )
 
-  pub values-small : {Cpih : ℕ} → Colours s Cpih → (i x y : ℕ) → Inside s i x y → natAbs (coloured Cpih (transformed s (coefficientsIn s l)) i x y) ≤ 2 ^ 60
+  pub values-small : {Cpih : ℕ} → Colours s Cpih
+      → (i x y : ℕ) → Inside s i x y → natAbs (coloured Cpih (transformed s (coefficientsIn s l)) i x y) ≤ 2 ^ 60
   unfolding numbersRct
   values-small {Cpih} colours =
       coloured-size (ready .built) colours room (transformed s (coefficientsIn s l)) transformed-small
@@ -48,8 +49,8 @@ module _ {s : Shape} {l : List ℤ} (ready : Ready s (2 ^ 40) l) where
 -- ---- cells that were given values
 
 -- they are ready for the next step, as far as the values are small
-pub held-ready : {s : Shape} {bound bound′ : ℕ} {v : Values ℤ} {l l′ : List ℤ} → Ready s bound l → ((i x y : ℕ) → Inside s i x y → natAbs (v i x y) ≤ bound′)
-    → Holding s v l l′ → Ready s bound′ l′
+pub held-ready : {s : Shape} {bound bound′ : ℕ} {v : Values ℤ} {l l′ : List ℤ} → Ready s bound l
+    → ((i x y : ℕ) → Inside s i x y → natAbs (v i x y) ≤ bound′) → Holding s v l l′ → Ready s bound′ l′
 held-ready ready small h =
     record { built = ready .built; room = rw (h .same) (ready .room); small = λ i x y p. rw (h .values i x y p) (small i x y p) }
 
@@ -103,7 +104,8 @@ module _ {s : Shape} (built : Built s) where
   transformed-within-places N T T′ given i x y p =
       inverse-within (built .sampled i (p .component) .parts) (T i) (T′ i) (N i) (given i (p .component)) x y (p .column) (p .row)
 
-  pub transformed-within : (M : ℕ → Kind → ℕ → ℕ → ℕ) (T T′ : Coefficients) → Every s (λ i k dx dy x y. Within (M i k dx dy) (T i k dx dy x y) (T′ i k dx dy x y))
+  pub transformed-within : (M : ℕ → Kind → ℕ → ℕ → ℕ) (T T′ : Coefficients)
+      → Every s (λ i k dx dy x y. Within (M i k dx dy) (T i k dx dy x y) (T′ i k dx dy x y))
       → (i x y : ℕ) → Inside s i x y → Within (component-number (N′x s i) (N′y s i) (M i)) (transformed s T i x y) (transformed s T′ i x y)
   unfolding transformed
   transformed-within M T T′ given i x y p =

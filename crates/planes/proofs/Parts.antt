@@ -7,9 +7,9 @@ use native.Mathlib.Omega.{arith}
 use lib.ListN.{length, take, drop, getD, length-take, length-drop, length-append, List·getD-append}
 use lib.Seq.{length-take-le, getD-take, getD-drop, getD-append-add, drop-drop}
 
--- from place k to place k + n
-pub between : {n m : ℕ} (k : ℕ) → n ≡ m → k + n - k ≡ m
-between k e = omega arith
+-- how many stand from place a on and before place a + n
+pub between : (a n : ℕ) → a + n - a ≡ n
+between a n = omega arith
 
 module _ {A : Type 0} (a n : ℕ) (l : List A) (fits : a + n ≤ length l) where
   pub part-length : length (take n (drop a l)) ≡ n

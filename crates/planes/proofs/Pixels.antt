@@ -11,15 +11,17 @@ use Rattle.colour.specs.Rct.{inverseRct}
 use Rattle.colour.specs.Pass.{pixel, Stretches, Transformed}
 use Rattle.colour.specs.declared.Pixel.{Pixel}
 use Rattle.layout.specs.declared.Shape.{Shape}
-use Rattle.layout.specs.Bands.{sx, Wc, Hc}
+use Rattle.layout.specs.Bands.{sx, Wc}
 use Rattle.layout.specs.Cells.{area, samples, start}
 use Rattle.planes.specs.Values.{pixelAt, partOf, coloured}
-use Rattle.planes.specs.Places.{valuesIn, Ready, Holding}
-use Rattle.planes.proofs.Colouring.{coloured-none, coloured-rct, same-width, same-height, same-area}
+use Rattle.planes.specs.Places.{valuesIn, Inside, Ready, Holding}
+use Rattle.planes.proofs.Colouring.{coloured-none, coloured-rct, same-width, same-area, same-place}
 use Rattle.planes.proofs.Stretches.{offset-below, stretches-apart, ready-one, stretch-fits, stretch-small}
 
+-- ---- the reversible transform
+
 module _ {s : Shape} {l : List ℤ} (ready : Ready s (2 ^ 45) l) (three : 3 ≤ s .nc) (full : (i : ℕ) → i < s .nc → sx s i ≡ 1) where
-  -- the n-th pixel, in column x and row y
+  -- the n-th pixel
   abbrev pixels : List ℤ → ℕ → Pixel
   pixels m n = pixel m (start s 0 + n) (start s 1 + n) (start s 2 + n)
 
@@ -68,40 +70,38 @@ module _ {s : Shape} {l : List ℤ} (ready : Ready s (2 ^ 45) l) (three : 3 ≤ 
   held l′ t =
       record {
         same = t .same;
-        values = λ i x y h. by i x y (h .component) (h .column) (h .row);
+        values = by;
         other = λ n h. t .off n (outside n (λ i g. h i (omega arith)));
       }
     where
-      pixel-made : (i x y : ℕ) → i < s .nc → x < Wc s i → y < Hc s i → pixelAt (valuesIn s l′) x y ≡ inverseRct (pixelAt (valuesIn s l) x y)
-      pixel-made i x y h c r =
-          let b : y * Wc s 0 + x < area s 0 = offset-below s 0 x y (rw (same-width (ready .built) full i h) at c) (rw (same-height (ready .built) full i h) at r) in
-          pixel-at l′ x y ∙ t .on (y * Wc s 0 + x) b ∙ ap inverseRct (sym (pixel-at l x y))
+      pixel-made : {i x y : ℕ} → Inside s i x y → pixelAt (valuesIn s l′) x y ≡ inverseRct (pixelAt (valuesIn s l) x y)
+      pixel-made {i} {x} {y} h =
+          let p = same-place (ready .built) full h 0 (omega arith) in
+          pixel-at l′ x y ∙ t .on (y * Wc s 0 + x) (offset-below s 0 x y (p .column) (p .row)) ∙ ap inverseRct (sym (pixel-at l x y))
 
-      by : (i x y : ℕ) → i < s .nc → x < Wc s i → y < Hc s i
-          → valuesIn s l′ i x y ≡ partOf (inverseRct (pixelAt (valuesIn s l) x y)) (valuesIn s l i x y) i
-      by zero x y h c r = ap (λ (p : Pixel). p .c0) (pixel-made zero x y h c r)
-      by (suc zero) x y h c r = ap (λ (p : Pixel). p .c1) (pixel-made (suc zero) x y h c r)
-      by (suc (suc zero)) x y h c r = ap (λ (p : Pixel). p .c2) (pixel-made (suc (suc zero)) x y h c r)
-      by (suc (suc (suc i))) x y h c r =
+      by : (i x y : ℕ) → Inside s i x y → valuesIn s l′ i x y ≡ partOf (inverseRct (pixelAt (valuesIn s l) x y)) (valuesIn s l i x y) i
+      by zero x y h = ap (λ (p : Pixel). p .c0) (pixel-made h)
+      by (suc zero) x y h = ap (λ (p : Pixel). p .c1) (pixel-made h)
+      by (suc (suc zero)) x y h = ap (λ (p : Pixel). p .c2) (pixel-made h)
+      by (suc (suc (suc i))) x y h =
           let n : ℕ = y * Wc s (suc (suc (suc i))) + x in
           t .off (start s (suc (suc (suc i))) + n)
-          (outside (start s (suc (suc (suc i))) + n) (λ k g. stretches-apart s (λ e. omega arith) n (offset-below s (suc (suc (suc i))) x y c r)))
+          (outside (start s (suc (suc (suc i))) + n)
+          (λ k g. stretches-apart s (λ e. omega arith) n (offset-below s (suc (suc (suc i))) x y (h .column) (h .row))))
 
-  -- the same at places a, b and d, with n pixels
-  module _ {a b d n : ℕ} (ea : a ≡ start s 0) (eb : b ≡ start s 1) (ed : d ≡ start s 2) (en : n ≡ area s 0) where
-    pub rct-taken : Stretches a b d n l
-    rct-taken = rw (ea, eb, ed, en) stretches
+  -- the same as the code has it: from the samples of the components before 1 and 2, and the n of component 0
+  module _ {b d n : ℕ} (second : b ≡ samples s 1) (third : d ≡ samples s 2) (own : n ≡ area s 0) where
+    pub rct-taken : Stretches 0 (2 * b) (2 * d) n l
+    unfolding samples
+    rct-taken = rw (second, third, own) stretches
 
-    pub rct-held : {Cpih : ℕ} {l′ : List ℤ} → Cpih ≡ 1 → Transformed a b d n l l′ → Holding s (coloured Cpih (valuesIn s l)) l l′
+    pub rct-held : {Cpih : ℕ} {l′ : List ℤ} → Cpih ≡ 1 → Transformed 0 (2 * b) (2 * d) n l l′ → Holding s (coloured Cpih (valuesIn s l)) l l′
+    unfolding samples
     rct-held {Cpih} {l′} e t =
-        let h = held l′ (rw (ea, eb, ed, en) at t) in
+        let h = held l′ (rw (second, third, own) at t) in
         record { same = h .same; values = λ i x y p. h .values i x y p ∙ sym (coloured-rct e (valuesIn s l) i x y); other = h .other }
 
--- no transform
+-- ---- no transform
 pub none-held : {s : Shape} {Cpih : ℕ} {l : List ℤ} → Cpih ≢ 1 → Holding s (coloured Cpih (valuesIn s l)) l l
 none-held {s} {Cpih} {l} n =
     record { same = refl; values = λ i x y h. sym (coloured-none n (valuesIn s l) i x y); other = λ n h. refl }
-
-pub first-start : (s : Shape) → 0 ≡ start s 0
-unfolding samples
-first-start s = refl

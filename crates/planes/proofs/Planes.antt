@@ -20,8 +20,8 @@ use Rattle.layout.specs.Cells.{area, samples, start}
 use Rattle.layout.proofs.Cells.{row-of-cell, column-of-cell, starts-up}
 use Rattle.planes.specs.Values.{Values, sampled, plane, planes}
 use Rattle.planes.specs.Places.{valuesIn, Inside, Holding}
-use Rattle.planes.specs.Components.{ReadyOne}
-use Rattle.planes.proofs.Parts.{part-length, part-at}
+use Rattle.planes.specs.Components.{ReadyOne, withPlane}
+use Rattle.planes.proofs.Parts.{between, part-length, part-at}
 use Rattle.planes.proofs.Stretches.{offset-below, row-below, stretch-fits, stretch-small}
 
 -- ---- its length
@@ -54,7 +54,8 @@ first-at s f (suc n) i x y h c r = pick (decLt i n) (λ l. first-at s f n i x y 
     all : List ℕ
     all = planes s f n ++ plane (Wc s n) (Hc s n) (f n)
 
-    pick : Dec (i < n) → (i < n → getD (planes s f n) (samples s i + (y * Wc s i + x)) 0 ≡ f i x y) → getD all (samples s i + (y * Wc s i + x)) 0 ≡ f i x y
+    pick : Dec (i < n) → (i < n → getD (planes s f n) (samples s i + (y * Wc s i + x)) 0 ≡ f i x y)
+        → getD all (samples s i + (y * Wc s i + x)) 0 ≡ f i x y
     pick (yes l) before =
         List·getD-append (planes s f n) (plane (Wc s n) (Hc s n) (f n)) 0 (samples s i + (y * Wc s i + x))
         (omega (arith, planes-length s f n, starts-up s i n l, offset-below s i x y c r))
@@ -124,14 +125,16 @@ planes-below {s} built f {b} h given j = pick (decLt j (samples s (s .nc)))
     pick (no l) = rw (List·getD-eq-default (planes s f (s .nc)) 0 {n = j} (omega (arith, planes-length s f (s .nc)))) h
 
 -- pictures that agree at each place have one list
-pub planes-same : {s : Shape} → Built s → (f g : Values ℕ) → ((i x y : ℕ) → Inside s i x y → f i x y ≡ g i x y) → planes s f (s .nc) ≡ planes s g (s .nc)
+pub planes-same : {s : Shape} → Built s → (f g : Values ℕ) → ((i x y : ℕ) → Inside s i x y → f i x y ≡ g i x y)
+    → planes s f (s .nc) ≡ planes s g (s .nc)
 planes-same {s} built f g given =
     ext-getD 0 (planes s f (s .nc)) (planes s g (s .nc)) (planes-length s f (s .nc) ∙ sym (planes-length s g (s .nc)))
     (λ j h. at (every-place built j (omega (arith, planes-length s f (s .nc)))))
   where
     at : {j : ℕ} → Place s j → getD (planes s f (s .nc)) j 0 ≡ getD (planes s g (s .nc)) j 0
     at p =
-        rw (sym (p .is)) (planes-at s f (p .i) (p .x) (p .y) (p .inside) ∙ given (p .i) (p .x) (p .y) (p .inside) ∙ sym (planes-at s g (p .i) (p .x) (p .y) (p .inside)))
+        rw (sym (p .is))
+        (planes-at s f (p .i) (p .x) (p .y) (p .inside) ∙ given (p .i) (p .x) (p .y) (p .inside) ∙ sym (planes-at s g (p .i) (p .x) (p .y) (p .inside)))
 
 -- the samples of the values that the cells were given
 pub planes-held : {s : Shape} {v : Values ℤ} {l l′ : List ℤ} → Built s → Holding s v l l′ → (Bw : ℕ) (B : ℕ → ℕ)
@@ -162,33 +165,35 @@ module _ {s : Shape} {i : ℕ} {l : List ℤ} (ready : ReadyOne s (2 ^ 60) i l) 
           ∙ ap (λ (n : ℕ). f (cell l (start s i + n))) (sym (div-add-mod' j (Wc s i)))
           ∙ sym (listed-at (Hc s i * Wc s i) (λ j. f (valuesIn s l i (j % Wc s i) (j / Wc s i))) (f (pos 0)) j (omega (arith, by-rows s i)))
 
-  -- n cells from place a on are lent, and m samples from place b on
-  module _ (out : List ℕ) (long : length out ≡ samples s (s .nc)) {a n b m : ℕ} (from : a ≡ start s i) (size : n ≡ area s i) (at : b ≡ samples s i) (count : m ≡ area s i) where
-    fits : a + n ≤ length l
-    fits = omega (arith, stretch-fits ready)
+  -- as the code has it: from the b samples of the components before it and its own n
+  module _ (out : List ℕ) (long : length out ≡ samples s (s .nc)) {b n : ℕ} (before : b ≡ samples s i) (size : n ≡ area s i) where
+    abbrev values-part : List ℤ
+    values-part = take (2 * b + n - 2 * b) (drop (2 * b) l)
 
-    room : b + m ≤ length out
-    room = omega (arith, starts-up s i (s .nc) (ready .there))
-
-    pub samples-taken : {Bw B : ℕ} → Precisions Bw B → Lent Bw B (take n (drop a l)) (take m (drop b out))
-    samples-taken bits =
-        record {
-          precisions = bits;
-          small = record { most = λ j h. small j (omega (arith, part-length a n l fits)) };
-          room = part-length a n l fits ∙ size ∙ sym (part-length b m out room ∙ count);
-        }
+    pub samples-taken : {Bw B : ℕ} → Precisions Bw B → Lent Bw B values-part (take (b + n - b) (drop b out))
+    samples-taken bits = rw (between (2 * b) n, between b n, before, size) (record {
+      precisions = bits;
+      small = record { most = λ j h. small j (omega (arith, long-values)) };
+      room = long-values ∙ sym (part-length (samples s i) (area s i) out room);
+    })
       where
-        small : (j : ℕ) → j < n → natAbs (cell (take n (drop a l)) j) ≤ 2 ^ 60
-        small j h = rw (part-at a n l fits (pos 0) j h, from) (stretch-small ready j (omega arith))
+        long-values : length (take (area s i) (drop (start s i) l)) ≡ area s i
+        long-values = part-length (start s i) (area s i) l (stretch-fits ready)
 
-    pub samples-given : (Bw B : ℕ) {ys : List ℕ} → ys ≡ map (sample Bw B) (take n (drop a l))
-        → take b out ++ (ys ++ drop m (drop b out))
-        ≡ take (samples s i) out ++ plane (Wc s i) (Hc s i) (λ x y. sample Bw B (valuesIn s l i x y)) ++ drop (samples s i + area s i) out
+        room : samples s i + area s i ≤ length out
+        room = omega (arith, starts-up s i (s .nc) (ready .there))
+
+        small : (j : ℕ) → j < area s i → natAbs (cell (take (area s i) (drop (start s i) l)) j) ≤ 2 ^ 60
+        small j h = rw (part-at (start s i) (area s i) l (stretch-fits ready) (pos 0) j h) (stretch-small ready j h)
+
+    pub samples-given : (Bw B : ℕ) {ys : List ℕ} → ys ≡ map (sample Bw B) values-part
+        → take b out ++ (ys ++ drop (b + n - b) (drop b out)) ≡ withPlane s i (λ x y. sample Bw B (valuesIn s l i x y)) out
     samples-given Bw B {ys} e =
-        let made : ys ≡ plane (Wc s i) (Hc s i) (λ x y. sample Bw B (valuesIn s l i x y)) = (rw (from, size) at e) ∙ plane-is (sample Bw B) in
-        sym (append-assoc (take b out) ys (drop m (drop b out)))
-        ∙ ap (λ (t : List ℕ). take b out ++ ys ++ t) (drop-drop m b out)
-        ∙ (λ j. take (at j) out ++ made j ++ drop (at j + count j) out)
+        let made : ys ≡ plane (Wc s i) (Hc s i) (λ x y. sample Bw B (valuesIn s l i x y)) =
+        (rw (between (2 * b) n, before, size) at e) ∙ plane-is (sample Bw B) in
+        sym (append-assoc (take b out) ys (drop (b + n - b) (drop b out)))
+        ∙ ap (λ (t : List ℕ). take b out ++ ys ++ t) (drop-drop (b + n - b) b out)
+        ∙ (λ j. take (before j) out ++ made j ++ drop (before j + (between b n ∙ size) j) out)
 
 -- ---- the first k components are written
 pub record Written (s : Shape) (f : Values ℕ) (k : ℕ) (out : List ℕ) : Type 0 where
@@ -200,8 +205,7 @@ unfolding planes samples
 written-none e = record { long = e; same = refl }
 
 module _ {s : Shape} {f : Values ℕ} {k : ℕ} {out : List ℕ} (w : Written s f k out) where
-  pub written-more : {out′ : List ℕ} → k < s .nc → out′ ≡ take (samples s k) out ++ plane (Wc s k) (Hc s k) (f k) ++ drop (samples s k + area s k) out
-      → Written s f (k + 1) out′
+  pub written-more : {out′ : List ℕ} → k < s .nc → out′ ≡ withPlane s k (f k) out → Written s f (k + 1) out′
   unfolding planes samples
   written-more {out′} h e =
       record {

@@ -1,5 +1,5 @@
 -- The stretches of the work cells that hold the components' values. Assumes nothing.
-use mathlib.Core.Path.{_≡_, refl, ap}
+use mathlib.Core.Path.{_≡_, refl}
 use mathlib.Core.Logic.{_≢_}
 use mathlib.Core.List.{List}
 use Prim.Native.Nat.{ℕ, zero, suc, _+_, _*_, _-_, _/_, _%_, _≤_, _<_}
@@ -19,10 +19,6 @@ use Rattle.layout.proofs.Shapes.{component-small}
 use Rattle.layout.proofs.Cells.{cell-below, starts-up}
 use Rattle.planes.specs.Places.{Ready}
 use Rattle.planes.specs.Components.{ReadyOne}
-
--- a start, from the samples before it
-pub twice : {m n : ℕ} → m ≡ n → 2 * m ≡ 2 * n
-twice e = ap (λ (n : ℕ). 2 * n) e
 
 -- a component is one that Annex E takes
 pub component : {s : Shape} → Built s → {i : ℕ} → i < s .nc → Component (Wc s i) (Hc s i) (N′x s i) (N′y s i) (area s i)

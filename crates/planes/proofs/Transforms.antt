@@ -1,7 +1,7 @@
 -- Annex E for one component after the other, in place. Assumes nothing.
 use mathlib.Core.Path.{_≡_, refl, _∙_}
 use mathlib.Core.List.{List, _++_}
-use Prim.Native.Nat.{ℕ, _+_, _*_, _^_, _≤_, _<_}
+use Prim.Native.Nat.{ℕ, _+_, _*_, _-_, _^_, _≤_, _<_}
 use native.Mathlib.Nat.{le-refl}
 use native.Mathlib.Decide.{ℕ-discrete}
 use native.Mathlib.Omega.{arith}
@@ -16,13 +16,13 @@ use Rattle.wavelet.specs.Grids.{SamplesWithin}
 use Rattle.wavelet.proofs.Components.{inverse-same, placed}
 use Rattle.layout.specs.declared.Shape.{Shape}
 use Rattle.layout.specs.Bands.{Wc, Hc, N′x, N′y}
-use Rattle.layout.specs.Cells.{area, start}
+use Rattle.layout.specs.Cells.{area, samples as samples-before, start}
 use Rattle.layout.specs.Sizes.{component-of}
 use Rattle.layout.specs.declared.bands.Component.{Component as Part}
 use Rattle.planes.specs.Values.{Values, transformed}
 use Rattle.planes.specs.Places.{valuesIn, coefficientsIn, Ready, Holding}
 use Rattle.planes.specs.Components.{ReadyOne, HoldingOne}
-use Rattle.planes.proofs.Parts.{part-length, part-at, back-length, back-on, back-off}
+use Rattle.planes.proofs.Parts.{between, part-length, part-at, back-length, back-on, back-off}
 use Rattle.planes.proofs.Stretches.{component, stretch-fits, offset-below, stretches-apart}
 
 -- coefficients that stand in equal values make equal values
@@ -31,7 +31,7 @@ pub inverse-placed : {W H Nx Ny : ℕ} → Decomposed W H Nx Ny → (P P′ : Ba
 inverse-placed parts P P′ same =
     inverse-same parts samples (bands P) (bands P′) (λ k dx dy x y c. same _ _ (placed c .0) (placed c .1))
 
--- ---- a component's stretch, lent: n cells from place a on. r is what the layout says of the component
+-- ---- a component's stretch, lent
 
 module _ {s : Shape} {i : ℕ} {l : List ℤ} (ready : ReadyOne s (2 ^ 40) i l) where
   abbrev lent : List ℤ
@@ -64,14 +64,17 @@ module _ {s : Shape} {i : ℕ} {l : List ℤ} (ready : ReadyOne s (2 ^ 40) i l) 
         other = back-off (start s i) (area s i) l fits ys e (pos 0);
       }
 
-  -- the same with a, n and r
-  module _ {a n : ℕ} {r : Part} (at : a ≡ start s i) (size : n ≡ area s i) (is : r ≡ component-of s i) where
-    pub part-taken : Component (r .w) (r .h) (s .nlx) (r .ny) (length (take n (drop a l))) × SamplesWithin (r .w) (r .h) (2 ^ 40) (take n (drop a l))
-    part-taken = rw (at, size, is) lent-taken
+  -- the same as the code has it: from the b samples of the components before it and its own n, with r for what the layout says of it
+  module _ {b n : ℕ} {r : Part} (before : b ≡ samples-before s i) (size : n ≡ area s i) (is : r ≡ component-of s i) where
+    abbrev part : List ℤ
+    part = take (2 * b + n - 2 * b) (drop (2 * b) l)
 
-    pub part-given : {ys : List ℤ} → Transformed (r .w) (r .h) (s .nlx) (r .ny) (take n (drop a l)) ys
-        → HoldingOne s i (transformed s (coefficientsIn s l) i) l (take a l ++ (ys ++ drop n (drop a l)))
-    part-given {ys} t = rw (at, size) (lent-given ys (rw (at, size, is) at t))
+    pub part-taken : Component (r .w) (r .h) (s .nlx) (r .ny) (length part) × SamplesWithin (r .w) (r .h) (2 ^ 40) part
+    part-taken = rw (between (2 * b) n, before, size, is) lent-taken
+
+    pub part-given : {ys : List ℤ} → Transformed (r .w) (r .h) (s .nlx) (r .ny) part ys
+        → HoldingOne s i (transformed s (coefficientsIn s l) i) l (take (2 * b) l ++ (ys ++ drop (2 * b + n - 2 * b) (drop (2 * b) l)))
+    part-given {ys} t = rw (between (2 * b) n, before, size) (lent-given ys (rw (between (2 * b) n, before, size, is) at t))
 
 -- ---- the first k components
 
@@ -119,20 +122,22 @@ module _ {s : Shape} {k : ℕ} {v : Values ℤ} {l l′ : List ℤ} (f : Holding
 
 -- ---- a turn
 
-module _ {s : Shape} {k : ℕ} {l l′ : List ℤ} (ready : Ready s (2 ^ 40) l) (f : HoldingFirst s k (transformed s (coefficientsIn s l)) l l′) (h : k < s .nc) where
-  still : (x y : ℕ) → x < Wc s k → y < Hc s k → valuesIn s l′ k x y ≡ valuesIn s l k x y
-  still x y c r = first-later f k x y (le-refl k) c r
+module _ {s : Shape} {k : ℕ} {l l′ : List ℤ} (ready : Ready s (2 ^ 40) l) (f : HoldingFirst s k (transformed s (coefficientsIn s l)) l l′) (h : k < s .nc)
+  where
+    still : (x y : ℕ) → x < Wc s k → y < Hc s k → valuesIn s l′ k x y ≡ valuesIn s l k x y
+    still x y c r = first-later f k x y (le-refl k) c r
 
-  pub first-ready : ReadyOne s (2 ^ 40) k l′
-  first-ready =
-      record {
-        built = ready .built;
-        there = h;
-        room = rw (f .same) (ready .room);
-        small = λ x y c r. rw (still x y c r) (ready .small k x y (record { component = h; column = c; row = r }));
-      }
+    pub first-ready : ReadyOne s (2 ^ 40) k l′
+    first-ready =
+        record {
+          built = ready .built;
+          there = h;
+          room = rw (f .same) (ready .room);
+          small = λ x y c r. rw (still x y c r) (ready .small k x y (record { component = h; column = c; row = r }));
+        }
 
-  -- coefficients that still stand as they stood are transformed as they were
-  pub first-turn : {l″ : List ℤ} → HoldingOne s k (transformed s (coefficientsIn s l′) k) l′ l″ → HoldingFirst s (k + 1) (transformed s (coefficientsIn s l)) l l″
-  unfolding transformed
-  first-turn one = first-more f one (inverse-placed (ready .built .sampled k h .parts) (valuesIn s l′ k) (valuesIn s l k) still)
+    -- coefficients that still stand as they stood are transformed as they were
+    pub first-turn : {l″ : List ℤ} → HoldingOne s k (transformed s (coefficientsIn s l′) k) l′ l″
+        → HoldingFirst s (k + 1) (transformed s (coefficientsIn s l)) l l″
+    unfolding transformed
+    first-turn one = first-more f one (inverse-placed (ready .built .sampled k h .parts) (valuesIn s l′ k) (valuesIn s l k) still)

@@ -4,15 +4,13 @@ use layout::bands::component_of;
 use layout::lines::area_of;
 use layout::lines::samples_before;
 ghost use mathlib.Core.Path.{_≡_};
-ghost use Prim.Native.Nat.{_+_, _^_};
-ghost use mathlib.Core.List.{_++_};
-ghost use lib.ListN.{length, getD, take, drop};
-ghost use Rattle.layout.specs.Bands.{Wc, Hc};
-ghost use Rattle.layout.specs.Cells.{area, samples};
+ghost use Prim.Native.Nat.{_^_};
+ghost use lib.ListN.{length, getD};
+ghost use Rattle.layout.specs.Cells.{samples};
 ghost use Rattle.output.specs.Linear.{sample, Precisions};
-ghost use Rattle.planes.specs.Values.{transformed, coloured, sampled, plane, planes};
+ghost use Rattle.planes.specs.Values.{transformed, coloured, sampled, planes};
 ghost use Rattle.planes.specs.Places.{valuesIn, coefficientsIn, Colours, Ready, Holding, Depths};
-ghost use Rattle.planes.specs.Components.{ReadyOne, HoldingOne};
+ghost use Rattle.planes.specs.Components.{ReadyOne, HoldingOne, withPlane};
 
 // Annex E of component i, whose coefficients are lent on.
 fn component_values(work: &mut [i64], s: Shape, i: usize)
@@ -63,7 +61,7 @@ pub fn values(work: &mut [i64], s: Shape, cpih: usize)
 // Annex G of component i, whose values and samples are lent on.
 fn component_samples(work: &[i64], out: &mut [u16], s: Shape, i: usize, bw: usize, b: usize)
     requires { ⌜ ReadyOne s (2 ^ 60) i (now work) × Precisions bw b × (length (now out) ≡ samples s (s .nc)) ⌝ }
-    ensures { λ _. ⌜ now (out .exit) ≡ take (samples s i) (now (out .entry)) ++ plane (Wc s i) (Hc s i) (λ x y. sample bw b (valuesIn s (now (work .entry)) i x y)) ++ drop (samples s i + area s i) (now (out .entry)) ⌝ }
+    ensures { λ _. ⌜ now (out .exit) ≡ withPlane s i (λ x y. sample bw b (valuesIn s (now (work .entry)) i x y)) (now (out .entry)) ⌝ }
 {
     let at = samples_before(s, i);
     let n = area_of(s, i);

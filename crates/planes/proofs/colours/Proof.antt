@@ -1,7 +1,6 @@
 -- `planes::colours` meets its contract. Assumes nothing.
 use native.Mathlib.Omega.{arith}
-use Rattle.planes.proofs.Stretches.{twice}
-use Rattle.planes.proofs.Pixels.{first-start, none-held, rct-taken, rct-held}
+use Rattle.planes.proofs.Pixels.{none-held, rct-taken, rct-held}
 use borrow.Author.Needs.{needs}
 use Rattle.planes.proofs.colours.Statement.{statement}
 use Rattle.planes.proofs.colours.Tie as tie
@@ -18,16 +17,16 @@ inverse-rct-requires : tie.Need-inverse-rct-requires
 inverse-rct-requires c κs =
     let s = c .before .before .before .before .before in
     let one = c .before .before .before .before .if1 .left in
-    rct-taken (s .pre .0) (s .pre .1 .three one) (s .pre .1 .full one) (first-start (s .args .s)) (twice (c .before .before .before .samples-before .ensures .0))
-    (twice (c .before .before .samples-before2 .ensures .0)) (c .area-of .ensures .0)
+    rct-taken (s .pre .0) (s .pre .1 .three one) (s .pre .1 .full one) (c .before .before .before .samples-before .ensures .0)
+    (c .before .before .samples-before2 .ensures .0) (c .area-of .ensures .0)
 
 returns-2 : tie.Need-returns-2
 returns-2 c =
     let d = c .before .before in
     let s = d .before .before .before .before .before in
     let one = d .before .before .before .before .if1 .left in
-    rct-held (s .pre .0) (s .pre .1 .three one) (s .pre .1 .full one) (first-start (s .args .s)) (twice (d .before .before .before .samples-before .ensures .0))
-    (twice (d .before .before .samples-before2 .ensures .0)) (d .area-of .ensures .0) one (c .before .inverse-rct .ensures)
+    rct-held (s .pre .0) (s .pre .1 .three one) (s .pre .1 .full one) (d .before .before .before .samples-before .ensures .0)
+    (d .before .before .samples-before2 .ensures .0) (d .area-of .ensures .0) one (c .before .inverse-rct .ensures)
 
 pub colours-spec : {M : Type 1} → statement M
 colours-spec =

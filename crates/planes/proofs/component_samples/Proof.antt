@@ -1,8 +1,7 @@
 -- `planes::component_samples` meets its contract. Assumes nothing.
 use native.Mathlib.Omega.{arith}
 use Rattle.layout.proofs.Cells.{starts-up}
-use Rattle.planes.proofs.Parts.{between}
-use Rattle.planes.proofs.Stretches.{twice, stretch-fits}
+use Rattle.planes.proofs.Stretches.{stretch-fits}
 use Rattle.planes.proofs.Planes.{samples-taken, samples-given}
 use borrow.Author.Needs.{needs}
 use Rattle.planes.proofs.component_samples.Statement.{statement}
@@ -27,14 +26,13 @@ linear-output-requires : tie.Need-linear-output-requires
 linear-output-requires c κs =
     let d = c .before .before in
     let s = d .before .before .before in
-    samples-taken (s .pre .0) (s .args .out .now) (s .pre .2) (twice (d .before .samples-before .ensures .0)) (between _ (d .area-of .ensures .0)) (d .before .samples-before .ensures .0) (between _ (d .area-of .ensures .0))
-    (s .pre .1)
+    samples-taken (s .pre .0) (s .args .out .now) (s .pre .2) (d .before .samples-before .ensures .0) (d .area-of .ensures .0) (s .pre .1)
 
 returns : tie.Need-returns
 returns c =
     let d = c .before .before .before .before .before in
     let s = d .before .before .before in
-    samples-given (s .pre .0) (s .args .out .now) (s .pre .2) (twice (d .before .samples-before .ensures .0)) (between _ (d .area-of .ensures .0)) (d .before .samples-before .ensures .0) (between _ (d .area-of .ensures .0))
+    samples-given (s .pre .0) (s .args .out .now) (s .pre .2) (d .before .samples-before .ensures .0) (d .area-of .ensures .0)
     (s .args .bw) (s .args .b) (c .before .before .linear-output .ensures)
 
 pub component-samples-spec : {M : Type 1} → statement M

@@ -1,7 +1,6 @@
 -- `planes::component_values` meets its contract. Assumes nothing.
 use native.Mathlib.Omega.{arith}
-use Rattle.planes.proofs.Parts.{between}
-use Rattle.planes.proofs.Stretches.{twice, stretch-fits}
+use Rattle.planes.proofs.Stretches.{stretch-fits}
 use Rattle.planes.proofs.Transforms.{part-taken, part-given}
 use borrow.Author.Needs.{needs}
 use Rattle.planes.proofs.component_values.Statement.{statement}
@@ -14,12 +13,14 @@ part-inverse-end c =
 inverse-requires : tie.Need-inverse-requires
 inverse-requires c κs =
     let d = c .before in
-    part-taken (d .before .before .before .pre) (twice (d .before .samples-before .ensures .0)) (between _ (d .area-of .ensures .0)) (d .before .before .component-of .ensures .is)
+    part-taken (d .before .before .before .pre) (d .before .samples-before .ensures .0) (d .area-of .ensures .0)
+    (d .before .before .component-of .ensures .is)
 
 returns : tie.Need-returns
 returns c =
     let d = c .before .before .before in
-    part-given (d .before .before .before .pre) (twice (d .before .samples-before .ensures .0)) (between _ (d .area-of .ensures .0)) (d .before .before .component-of .ensures .is) (c .before .inverse .ensures)
+    part-given (d .before .before .before .pre) (d .before .samples-before .ensures .0) (d .area-of .ensures .0)
+    (d .before .before .component-of .ensures .is) (c .before .inverse .ensures)
 
 pub component-values-spec : {M : Type 1} → statement M
 component-values-spec =
