@@ -56,8 +56,8 @@ module _ (s : Shape) (built : Built s) where
   -- there are 40 bands or fewer
   pub band-below : (i β : ℕ) → i < s .nc → β < Nβ s → band s β i < 40
   band-below i β h b =
-      let ten : β ≤ 9 = omega (arith, built .levels, built .down-levels) in
-      omega (arith, built .few, mul-le-mul {n₁ = s .nc} {m₁ = β} {n₂ = 4} {m₂ = 9} (built .few) ten)
+      let nine : β ≤ 9 = omega (arith, built .levels, built .down-levels) in
+      omega (arith, built .few, mul-le-mul {n₁ = s .nc} {m₁ = β} {n₂ = 4} {m₂ = 9} (built .few) nine)
 
 -- ---- a band that a component has is the layout's band of this filter type
 
