@@ -102,8 +102,10 @@ module _ (c : Setting) (settled : Settled c) {row column slot j : ℕ} (a : Ther
     packet-spares g from raws cells l other q =
         let b : (i : ℕ) → i < candidates (c .shape) g → line-at (c .shape) row column g i .present ≡ true → There (c .shape) row column g i =
         λ i m e. record { across = a .across; which = l; candidate = m; present = e } in
-        rw (packet-other s c p g from raws cells coefficientAt (λ i m e. apart-coefficient (b i m e) (λ u v. other)),
-        packet-other s c p g from raws cells countAt (λ i m e. apart-count (b i m e) (λ u v. other))) q
+        rw (
+          packet-other s c p g from raws cells coefficientAt (λ i m e. apart-coefficient (b i m e) (λ u v. other)),
+          packet-other s c p g from raws cells countAt (λ i m e. apart-count (b i m e) (λ u v. other)),
+        ) q
 
     abbrev Carries : List ℤ → ℕ → Packing s c row column at → Type 0
     Carries cells g x = (length (x .2) ≡ length cells) × (slot < g → own t (x .2))
