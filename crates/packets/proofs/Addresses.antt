@@ -8,7 +8,7 @@ use native.Mathlib.Decide.{decLt}
 use native.Mathlib.Omega.{arith}
 use lib.Pow.{pow-pos}
 use Rattle.layout.specs.declared.Shape.{Shape}
-use Rattle.layout.specs.Bands.{sx, sy, N′y, dx, depth, band}
+use Rattle.layout.specs.Bands.{sx, sy, N′y, Nβ, dx, dy, depth, band}
 use Rattle.layout.specs.Built.{Built}
 use Rattle.layout.specs.Precincts.{Cs, Npx, Wpb, Member, most-lines, first-x, first-y}
 use Rattle.layout.specs.Packets.{included}
@@ -81,6 +81,9 @@ module _ (s : Shape) (slot j : ℕ) where
   down row = first-y s row type part + slot-line slot / sy s part
 
 module _ (s : Shape) (built : Built s) {row column slot j : ℕ} (a : There s row column slot j) where
+  fits : (type s slot j < Nβ s) × (slot-line slot < 4) × (slot-line slot < 2 ^ (s .nly - dy s (type s slot j)))
+  fits = slot-fits s built slot j (a .which) (a .candidate)
+
   part-below : part s slot j < s .nc
   part-below = mod-lt j (built .some)
 
@@ -88,40 +91,39 @@ module _ (s : Shape) (built : Built s) {row column slot j : ℕ} (a : There s ro
   unfolding line-at lineOf
   here = a .present
 
-  -- coefficient x of the line
+  -- coefficient x of the line: its column in the band, and its cell
+  abbrev column-at : ℕ → ℕ
+  column-at x = first-x s column (type s slot j) (part s slot j) + x
+
+  abbrev cell-at : ℕ → ℕ
+  cell-at x = line-at s row column slot j .cell + x * line-at s row column slot j .stride
+
   module _ (x : ℕ) (h : x < line-at s row column slot j .width) where
-    pub there-exists : Exists s (part s slot j) (type s slot j) (first-x s column (type s slot j) (part s slot j) + x) (down s slot j row)
+    there-exists : Exists s (part s slot j) (type s slot j) (column-at x) (down s slot j row)
     unfolding line-at lineOf
-    there-exists =
-        let fits = slot-fits s built slot j (a .which) (a .candidate) in
-        line-exists s built row column (type s slot j) (part s slot j) (slot-line slot) (fits .0) part-below (fits .2) (a .across) here x h
+    there-exists = line-exists s built row column (type s slot j) (part s slot j) (slot-line slot) (fits .0) part-below (fits .2) (a .across) here x h
 
-    pub there-cell : line-at s row column slot j .cell + x * line-at s row column slot j .stride ≡ cell s (type s slot j) (part s slot j) (first-x s column (type s slot j) (part s slot j) + x) (down s slot j row)
+    there-cell : cell-at x ≡ cell s (type s slot j) (part s slot j) (column-at x) (down s slot j row)
     unfolding line-at lineOf
-    there-cell =
-        let fits = slot-fits s built slot j (a .which) (a .candidate) in
-        line-inside s built row column (type s slot j) (part s slot j) (slot-line slot) (fits .0) part-below (fits .2) (a .across) here x h .0
+    there-cell = line-inside s built row column (type s slot j) (part s slot j) (slot-line slot) (fits .0) part-below (fits .2) (a .across) here x h .0
 
-    there-inside : (start s (part s slot j) ≤ line-at s row column slot j .cell + x * line-at s row column slot j .stride)
-        × (line-at s row column slot j .cell + x * line-at s row column slot j .stride < start s (part s slot j) + area s (part s slot j))
+    there-inside : (start s (part s slot j) ≤ cell-at x) × (cell-at x < start s (part s slot j) + area s (part s slot j))
     there-inside = (omega (arith, there-cell), omega (arith, there-cell, cell-inside s built (part s slot j) part-below there-exists))
 
     -- it tells the precinct's column
-    there-column : (first-x s column (type s slot j) (part s slot j) + x) * (sx s (part s slot j) * 2 ^ dx s (type s slot j)) / Cs s ≡ column
+    there-column : column-at x * (sx s (part s slot j) * 2 ^ dx s (type s slot j)) / Cs s ≡ column
     unfolding line-at lineOf
-    there-column =
-        column-member s built (type s slot j) (part s slot j) (slot-fits s built slot j (a .which) (a .candidate) .0) part-below column (first-x s column (type s slot j) (part s slot j) + x) (a .across) (omega arith) (omega arith) .1
+    there-column = column-member s built (type s slot j) (part s slot j) (fits .0) part-below column (column-at x) (a .across) (omega arith) (omega arith) .1
 
   there-area : line-at s row column slot j .area ≡ area s (part s slot j)
   unfolding line-at lineOf
   there-area = refl
 
   -- the line tells the precinct's row
-  there-row : (down s slot j row) / most-lines s (type s slot j) (part s slot j) ≡ row
+  there-row : down s slot j row / most-lines s (type s slot j) (part s slot j) ≡ row
   there-row =
-      let few = line-fits s (type s slot j) (part s slot j) built part-below (slot-line slot) (slot-fits s built slot j (a .which) (a .candidate) .2) in
       mul-add-div-right (pow-pos (N′y s (part s slot j) - depth s (type s slot j) (part s slot j))) row (slot-line slot / sy s (part s slot j))
-      ∙ ap (λ (n : ℕ). row + n) (div-eq-of-lt few)
+      ∙ ap (λ (n : ℕ). row + n) (div-eq-of-lt (line-fits s (type s slot j) (part s slot j) built part-below (slot-line slot) (fits .2)))
       ∙ omega arith
 
 -- ---- the address
@@ -132,21 +134,17 @@ pub record SameLine (row row′ column column′ slot slot′ j j′ : ℕ) : Ty
   pub slots : slot ≡ slot′
   pub candidates : j ≡ j′
 
-module _ (s : Shape) (built : Built s) {row row′ column column′ slot slot′ j j′ : ℕ} (a : There s row column slot j) (b : There s row′ column′ slot′ j′) (x x′ : ℕ)
-    (h : x < line-at s row column slot j .width) (h′ : x′ < line-at s row′ column′ slot′ j′ .width) where
-  abbrev own : ℕ
-  own = line-at s row column slot j .cell + x * line-at s row column slot j .stride
-
-  abbrev other : ℕ
-  other = line-at s row′ column′ slot′ j′ .cell + x′ * line-at s row′ column′ slot′ j′ .stride
-
+module _ (s : Shape) (built : Built s) {row row′ column column′ slot slot′ j j′ : ℕ} (a : There s row column slot j) (b : There s row′ column′ slot′ j′)
+    (x x′ : ℕ) (h : x < line-at s row column slot j .width) (h′ : x′ < line-at s row′ column′ slot′ j′ .width) where
   -- lines that share a coefficient cell are one
-  pub same-line : own ≡ other → SameLine row row′ column column′ slot slot′ j j′
+  pub same-line : cell-at s built a x ≡ cell-at s built b x′ → SameLine row row′ column column′ slot slot′ j j′
   same-line e =
-      let q = same-cell s built (part-below s built a) (part-below s built b) (there-exists s built a x h) (there-exists s built b x′ h′) (sym (there-cell s built a x h) ∙ e ∙ there-cell s built b x′ h′) in
+      let at : cell s (type s slot j) (part s slot j) (column-at s built a x) (down s slot j row) ≡ cell s (type s slot′ j′) (part s slot′ j′) (column-at s built b x′) (down s slot′ j′ row′) =
+      sym (there-cell s built a x h) ∙ e ∙ there-cell s built b x′ h′ in
+      let q = same-cell s built (part-below s built a) (part-below s built b) (there-exists s built a x h) (there-exists s built b x′ h′) at in
       let r : row ≡ row′ = sym (there-row s built a) ∙ (λ n. q .3 n / most-lines s (q .1 n) (q .0 n)) ∙ there-row s built b in
       let same =
-      one-line s built (type s slot j) (part s slot j) (there-exists s built a x h .type) (part-below s built a) {row = row} {y = down s slot j row}
+      one-line s built (type s slot j) (part s slot j) (fits s built a .0) (part-below s built a) {row = row} {y = down s slot j row}
       (record { k = slot; j = j; slot = a .which; candidate = a .candidate; type = refl; component = refl; line = refl; present = here s built a })
       (record {
         k = slot′;
@@ -166,14 +164,16 @@ module _ (s : Shape) (built : Built s) {row row′ column column′ slot slot′
       }
 
   -- and so are lines that share a count cell
-  pub same-counts : own + line-at s row column slot j .area ≡ other + line-at s row′ column′ slot′ j′ .area → SameLine row row′ column column′ slot slot′ j j′
+  pub same-counts : cell-at s built a x + line-at s row column slot j .area ≡ cell-at s built b x′ + line-at s row′ column′ slot′ j′ .area
+      → SameLine row row′ column column′ slot slot′ j j′
   same-counts e =
       let p = there-inside s built a x h in
       let q = there-inside s built b x′ h′ in
-      same-line (counts-same s (part s slot j) (part s slot′ j′) _ _ (p .0) (p .1) (q .0) (q .1) (omega (arith, e, there-area s built a, there-area s built b)))
+      same-line
+      (counts-same s (part s slot j) (part s slot′ j′) _ _ (p .0) (p .1) (q .0) (q .1) (omega (arith, e, there-area s built a, there-area s built b)))
 
   -- no count cell of a line is a coefficient cell of a line
-  pub count-apart : own + line-at s row column slot j .area ≡ other → ⊥
+  pub count-apart : cell-at s built a x + line-at s row column slot j .area ≡ cell-at s built b x′ → ⊥
   count-apart e =
       let p = there-inside s built a x h in
       let q = there-inside s built b x′ h′ in
@@ -213,11 +213,11 @@ module _ (s : Shape) (built : Built s) {i β x y : ℕ} (h : i < s .nc) (e : Exi
         present = (λ n. included s row-here (m .type n) (m .component n) (slot-line (m .k))) ∙ m .present;
       } in
       let wide : Wpb s column-here (type s (m .k) (m .j)) (part s (m .k) (m .j)) ≡ Wpb s column-here β i = λ n. Wpb s column-here (m .type n) (m .component n) in
-      let at : (n : ℕ) → n < Wpb s column-here β i
-      → cell s (type s (m .k) (m .j)) (part s (m .k) (m .j)) (first-x s column-here (type s (m .k) (m .j)) (part s (m .k) (m .j))) (down s (m .k) (m .j) row-here) + n * 2 ^ dx s (type s (m .k) (m .j))
-      ≡ cell s β i (first-x s column-here β i + n) y =
+      let at : (n : ℕ) → n < Wpb s column-here β i → cell-at s built t n ≡ cell s β i (first-x s column-here β i + n) y =
       λ n l. there-cell s built t n (omega arith)
-      ∙ (λ z. cell s (m .type z) (m .component z) (first-x s column-here (m .type z) (m .component z) + n) (first-y s row-here (m .type z) (m .component z) + slot-line (m .k) / sy s (m .component z)))
+      ∙ (λ z.
+      cell s (m .type z) (m .component z) (first-x s column-here (m .type z) (m .component z) + n)
+      (first-y s row-here (m .type z) (m .component z) + slot-line (m .k) / sy s (m .component z)))
       ∙ (λ z. cell s β i (first-x s column-here β i + n) (m .line z))
       in
       let back : first-x s column-here β i + (x - first-x s column-here β i) ≡ x = omega (arith, across) in
@@ -229,8 +229,7 @@ module _ (s : Shape) (built : Built s) {i β x y : ℕ} (h : i < s .nc) (e : Exi
         number = back;
         inside = omega (arith, across);
         coefficient = at (x - first-x s column-here β i) (omega (arith, across)) ∙ (λ n. cell s β i (back n) y);
-        count =
-            (λ n. at (4 * ((x - first-x s column-here β i) / 4)) (omega (arith, across)) n + area s (m .component n));
+        count = (λ n. at (4 * ((x - first-x s column-here β i) / 4)) (omega (arith, across)) n + area s (m .component n));
       }
 
   pub addressed : {row column : ℕ} → Member s row column β i x y → Addressed s row column i β x y (x - first-x s column β i)

@@ -50,20 +50,27 @@ module _ (s : List ℕ) (c : Setting) (p : Precinct) (slot at : ℕ) where
   pub packet-onward : at ≤ past s c p slot at
   packet-onward = omega arith
 
-  pub values-fine : (v : Verdict) (cells : List ℤ) → valuesBy s c p slot at v cells .0 ≡ Fine → v ≡ Fine
+  values-fine : (v : Verdict) (cells : List ℤ) → valuesBy s c p slot at v cells .0 ≡ Fine → v ≡ Fine
   values-fine Fine cells e = refl
   values-fine (Refused k) cells e = clash e
+
+  -- counts that are cut, or too high, refuse the packet
+  pub cut-refused : (cells : List ℤ) → afterCounts s c p slot at (Cut, cells) .0 ≡ Fine → ⊥
+  cut-refused cells e =
+      let t = held (countChecks s c p slot at Cut) (values-fine _ cells e) in
+      omega (arith, t .0 .least)
+
+  pub high-refused : (cells : List ℤ) → afterCounts s c p slot at (High, cells) .0 ≡ Fine → ⊥
+  high-refused cells e =
+      let t = held (countChecks s c p slot at High) (values-fine _ cells e) in
+      omega (arith, t .0 .most)
 
   after-fine : (x : Counted × List ℤ) → datAt s c p slot at ≤ p .end → afterCounts s c p slot at x .0 ≡ Fine → past s c p slot at ≤ p .end
   after-fine (Done next need, cells) h e =
       let t = held (dataChecks s c p slot at (Done next need)) (values-fine _ cells e) in
       omega (arith, t .0 .least, t .1 .1 .0 .least)
-  after-fine (Cut, cells) h e =
-      let t = held (countChecks s c p slot at Cut) (values-fine _ cells e) in
-      absurd (omega (arith, t .0 .least))
-  after-fine (High, cells) h e =
-      let t = held (countChecks s c p slot at High) (values-fine _ cells e) in
-      absurd (omega (arith, t .0 .most))
+  after-fine (Cut, cells) h e = absurd (cut-refused cells e)
+  after-fine (High, cells) h e = absurd (high-refused cells e)
 
   counts-fine : (v : Verdict) (cells : List ℤ) → (v ≡ Fine → datAt s c p slot at ≤ p .end) → countsBy s c p slot at v cells .0 ≡ Fine → past s c p slot at ≤ p .end
   counts-fine Fine cells h e = after-fine (countsOf s c p slot at cells) (h refl) e

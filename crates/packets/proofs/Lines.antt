@@ -1,8 +1,8 @@
 -- The lines of a slot: where they lie. Assumes nothing.
-use mathlib.Core.Path.{_≡_, refl, sym, ap, _∙_}
+use mathlib.Core.Path.{_≡_, refl, _∙_}
 use mathlib.Core.Bool.{Bool, true, false, _&&_}
 use Prim.Native.Nat.{ℕ, suc, _+_, _-_, _*_, _/_, _%_, _^_, _≤_, _<_}
-use native.Mathlib.Nat.{mod-lt, mod-eq-of-lt, div-eq-of-lt, mul-add-div, mul-add-mod-self-left, mul-le-mul, mul-le-mul-left, mul-suc, div-add-mod'}
+use native.Mathlib.Nat.{mod-lt, mod-eq-of-lt, div-eq-of-lt, mul-add-div, mul-add-mod-self-left, mul-le-mul-left, mul-suc}
 use native.Mathlib.Decide.{decLt}
 use native.Mathlib.Omega.{arith}
 use lib.Dec.{eqb, ltb}
@@ -13,12 +13,12 @@ use Rattle.layout.specs.Bands.{sy, Wc, NL, Nβ, dx, dy, depth, N′y, exists, b
 use Rattle.layout.specs.Built.{Built}
 use Rattle.layout.specs.Precincts.{Npx, Wpb, L0, L1, first-x, first-y}
 use Rattle.layout.specs.Packets.{included}
-use Rattle.layout.specs.Cells.{area, start, inner, cell}
+use Rattle.layout.specs.Cells.{area, inner}
 use Rattle.layout.specs.Slots.{slot-type, slot-line, candidates, line as lineOf, line-at}
 use Rattle.layout.proofs.Sums.{area-most}
 use Rattle.layout.proofs.Slots.{slot-fits}
-use Rattle.layout.proofs.Cells.{Exists, cell-inside, cells-differ, starts-up, line-above}
-use Rattle.layout.proofs.Present.{line-exists, line-inside}
+use Rattle.layout.proofs.Cells.{starts-up, line-above}
+use Rattle.layout.proofs.Present.{line-inside}
 use Rattle.packets.specs.declared.Setting.{Setting}
 use Rattle.packets.specs.declared.Precinct.{Precinct}
 use Rattle.packets.specs.Passes.{line}

@@ -10,7 +10,7 @@ use borrow.Author.Tests.{lt-ltb}
 use lib.IntN.{ℤ, pos, negsuc}
 use lib.ListN.{length, getD}
 use Rattle.whole.specs.Cells.{cell}
-use Rattle.loops.specs.Run.{Turn, go}
+use Rattle.loops.specs.Run.{go}
 use Rattle.loops.proofs.Laws.{Kept, run-carries}
 use Rattle.rows.specs.Rows.{first}
 use Rattle.rows.specs.declared.Verdict.{Verdict}
@@ -87,13 +87,16 @@ module _ (c : Setting) (settled : Settled c) {row column slot j : ℕ} (a : Ther
     t = T c p (line-at (c .shape) row column slot j .band)
 
     -- the line's own packet brings it
-    packet-brings : (from : ℕ) (raws : List ℕ) (cells : List ℤ) → start (c .shape) (c .shape .nc) ≤ length cells → packet s c p slot from raws cells .0 ≡ Fine → own t (packet s c p slot from raws cells .1)
+    packet-brings : (from : ℕ) (raws : List ℕ) (cells : List ℤ) → start (c .shape) (c .shape .nc) ≤ length cells → packet s c p slot from raws cells .0 ≡ Fine
+        → own t (packet s c p slot from raws cells .1)
     unfolding M
     packet-brings from raws cells room e =
         let slotted : Slotted c p slot = record { settled = settled; row = down; column = a .across; which = a .which } in
         let holds = packet-holds c p slot slotted j (n / 4) (a .candidate) (a .present) (omega arith) s from raws cells room e in
         record {
-          coefficient = rw (count-is (cell (packet s c p slot from raws cells .1) countAt)) at (packet-writes c p slot slotted j n (a .candidate) (a .present) h s from raws cells room e);
+          coefficient =
+              rw (count-is (cell (packet s c p slot from raws cells .1) countAt)) at
+              (packet-writes c p slot slotted j n (a .candidate) (a .present) h s from raws cells room e);
           truncation = rw (holds .is) (held-t (holds .m) t (holds .most) (T-most c p (line-at (c .shape) row column slot j .band) settled));
         }
 
@@ -170,7 +173,8 @@ pub record Stored (c : Setting) (p : Precinct) (tops : List ℕ) (l : List ℤ) 
   pub largest : T c p (band (c .shape) β i) ≤ getD tops (band (c .shape) β i) 0
 
 -- where the largest T of a band is 0, so is the T of each of its coefficients
-pub stored-exact : {c : Setting} {p : Precinct} {tops : List ℕ} {l : List ℤ} {i β x y : ℕ} → Stored c p tops l i β x y → getD tops (band (c .shape) β i) 0 ≡ 0 → T c p (band (c .shape) β i) ≡ 0
+pub stored-exact : {c : Setting} {p : Precinct} {tops : List ℕ} {l : List ℤ} {i β x y : ℕ} → Stored c p tops l i β x y → getD tops (band (c .shape) β i) 0 ≡ 0
+    → T c p (band (c .shape) β i) ≡ 0
 stored-exact q e = omega (arith, q .largest)
 
 -- a reading that leaves its two cells, and lowers no T
@@ -182,8 +186,8 @@ stored-still tops′ l′ q e f h =
     record { member = q .member; truncation = rw f (q .truncation); coefficient = rw (e, f) (q .coefficient); largest = omega (arith, q .largest, h) }
 
 -- a precinct that has a coefficient of a band holds the band
-pub member-holds : (c : Setting) (p : Precinct) → Built (c .shape) → {i β x y : ℕ} → i < c .shape .nc → Exists (c .shape) i β x y → Member (c .shape) (p .row) (p .column) β i x y
-    → holds c p (band (c .shape) β i) ≡ true
+pub member-holds : (c : Setting) (p : Precinct) → Built (c .shape) → {i β x y : ℕ} → i < c .shape .nc → Exists (c .shape) i β x y
+    → Member (c .shape) (p .row) (p .column) β i x y → holds c p (band (c .shape) β i) ≡ true
 member-holds c p built {i} {β} {x} {y} h e m =
     let s = c .shape in
     let q : (s .nc * β + i) / s .nc ≡ β = mul-add-div (built .some) β i ∙ omega (arith, div-eq-of-lt h) in
@@ -198,14 +202,14 @@ module _ (c : Setting) (settled : Settled c) {i β x y : ℕ} (h : i < c .shape 
     address = addressed (c .shape) (settled .shape) h e m
 
     -- an accepted precinct leaves each of its coefficients
-    pub precinct-coefficients : (s : List ℕ) (at : ℕ) (top : Bool) (tops : List ℕ) (cells : List ℤ) → row < Npy (c .shape) → start (c .shape) (c .shape .nc) ≤ length cells → NL (c .shape) ≤ length tops
-        → precinct s c row column at top cells .0 ≡ Fine
+    pub precinct-coefficients : (s : List ℕ) (at : ℕ) (top : Bool) (tops : List ℕ) (cells : List ℤ) → row < Npy (c .shape)
+        → start (c .shape) (c .shape .nc) ≤ length cells → NL (c .shape) ≤ length tops → precinct s c row column at top cells .0 ≡ Fine
         → Stored c (precinctAt s c row column at) (raised c (precinctAt s c row column at) (NL (c .shape)) tops) (precinct s c row column at top cells .1) i β x y
     precinct-coefficients s at top tops cells down room long fine =
         let p = precinctAt s c row column at in
         let a = address .there in
-        let few = lies c p (address .slot) (address .j) (record { settled = settled; row = down; column = a .across; which = a .which }) (a .candidate) (a .present) .band in
-        let b : band (c .shape) β i < NL (c .shape) = omega (arith, few, address .band) in
+        let slotted : Slotted c p (address .slot) = record { settled = settled; row = down; column = a .across; which = a .which } in
+        let b : band (c .shape) β i < NL (c .shape) = omega (arith, address .band, lies c p (address .slot) (address .j) slotted (a .candidate) (a .present) .band) in
         let q = precinct-brings c settled a (x - first-x (c .shape) column β i) (address .inside) s at down top cells room fine in
         record {
           member = m;
@@ -218,22 +222,29 @@ module _ (c : Setting) (settled : Settled c) {i β x y : ℕ} (h : i < c .shape 
     module _ {row′ column′ slot j : ℕ} (there : There (c .shape) row′ column′ slot j) (other : row ≡ row′ → column ≡ column′ → ⊥) where
       pub far-coefficient : Apart (line-at (c .shape) row′ column′ slot j) (place (c .shape) β i x y)
       far-coefficient =
-          rw (address .coefficient) at (apart-coefficient c settled (address .there) (x - first-x (c .shape) column β i) (address .inside) there (λ r q z. other r q))
+          rw (address .coefficient) at
+          (apart-coefficient c settled (address .there) (x - first-x (c .shape) column β i) (address .inside) there (λ r q z. other r q))
 
       pub far-count : Apart (line-at (c .shape) row′ column′ slot j) (countOf (c .shape) column β i x y)
-      far-count = rw (address .count) at (apart-count c settled (address .there) (x - first-x (c .shape) column β i) (address .inside) there (λ r q z. other r q))
+      far-count =
+          rw (address .count) at (apart-count c settled (address .there) (x - first-x (c .shape) column β i) (address .inside) there (λ r q z. other r q))
 
   -- and so another precinct leaves it
   pub precinct-leaves : {p : Precinct} {tops : List ℕ} {cells : List ℤ} (s : List ℕ) (row column at : ℕ) (top : Bool) → Stored c p tops cells i β x y
       → column < Npx (c .shape) → (p .row ≡ row → p .column ≡ column → ⊥) → band (c .shape) β i < length tops
       → Stored c p (raised c (precinctAt s c row column at) (NL (c .shape)) tops) (precinct s c row column at top cells .1) i β x y
   precinct-leaves {p} {tops} {cells} s row column at top q k other few =
-      let there : (slot j : ℕ) → slot < slots (c .shape) → j < candidates (c .shape) slot → line-at (c .shape) row column slot j .present ≡ true → There (c .shape) row column slot j =
-      λ slot j l m d. record { across = k; which = l; candidate = m; present = d } in
-      let still : (n : ℕ) → ((slot j : ℕ) → There (c .shape) row column slot j → Apart (line-at (c .shape) row column slot j) n) → cell (precinct s c row column at top cells .1) n ≡ cell cells n =
-      λ n apart. precinct-keeps s c (λ l. cell l n ≡ cell cells n) row column at
-      (λ slot from raws l w d. packet-other s c (precinctAt s c row column at) slot from raws l n (λ j m u. apart slot j (there slot j w m u)) ∙ d) top cells refl in
       stored-still (raised c (precinctAt s c row column at) (NL (c .shape)) tops) (precinct s c row column at top cells .1) q
       (still (place (c .shape) β i x y) (λ slot j t. far-coefficient (q .member) t other))
       (still (countOf (c .shape) (p .column) β i x y) (λ slot j t. far-count (q .member) t other))
       (raised-up c (precinctAt s c row column at) (NL (c .shape)) (band (c .shape) β i) tops few)
+    where
+      still : (n : ℕ) → ((slot j : ℕ) → There (c .shape) row column slot j → Apart (line-at (c .shape) row column slot j) n)
+          → cell (precinct s c row column at top cells .1) n ≡ cell cells n
+      still n apart =
+          precinct-keeps s c (λ l. cell l n ≡ cell cells n) row column at
+          (λ slot from raws l w d.
+          packet-other s c (precinctAt s c row column at) slot from raws l n
+          (λ j m u. apart slot j (record { across = k; which = w; candidate = m; present = u }))
+          ∙ d)
+          top cells refl

@@ -1,32 +1,33 @@
 -- How far the reading has come before each slice and each precinct, and so which precinct it is that is read there. The definitions speak of an accepted
 -- stream, and of a refused one up to the slice or precinct that is refused.
-use Prim.Native.Nat.{ℕ, zero, suc, _+_, _-_, _*_, _/_}
+use Prim.Native.Nat.{ℕ, _+_, _-_, _*_, _/_}
 use mathlib.Core.List.{List}
-use Rattle.loops.specs.Run.{Turn, then}
+use lib.IntN.{ℤ}
+use Rattle.loops.specs.Before.{before}
+use Rattle.rows.specs.declared.Verdict.{Verdict}
 use Rattle.layout.specs.declared.Shape.{Shape}
 use Rattle.layout.specs.Precincts.{first-x}
 use Rattle.layout.specs.Packets.{Ng}
 use Rattle.layout.specs.Cells.{area, cell}
 use Rattle.packets.specs.declared.Setting.{Setting}
 use Rattle.packets.specs.declared.Precinct.{Precinct}
-use Rattle.slices.specs.Precinct.{precinctAt}
-use Rattle.slices.specs.Slice.{State, rowOf, columnOf, precinctTurn}
+use Rattle.slices.specs.Precinct.{precinctAt, precinct}
+use Rattle.slices.specs.Slice.{State, rowOf, columnOf, isTop, precinctTurn}
 use Rattle.slices.specs.Stream.{sliceTurn}
 
--- the state of a counting loop before turn n, where no turn before has stopped
-unfoldable pub before : {S R : Type 0} → (ℕ → S → Turn S R) → S → ℕ → S
-before turn x zero = x
-before turn x (suc n) = then (turn n (before turn x n)) (λ y. y) (λ r. before turn x n)
-
--- of a slice, whose header stands at the state's place
+-- of slice t, whose header stands at the state's place
 module _ (s : List ℕ) (c : Setting) (x : State) (t : ℕ) where
-  -- behind its header, which has 6 bytes (A.4.14), and the first n of its precincts
+  -- behind its header, which has 6 bytes (A.4.14), and its first n precincts
   abbrev pub beforePrecinct : ℕ → State
   beforePrecinct n = before (precinctTurn s c t) (x .0 + 6, x .1, x .2) n
 
   -- its precinct n
   abbrev pub sliceHas : ℕ → Precinct
   sliceHas n = precinctAt s c (rowOf s c t n) (columnOf s c t n) (beforePrecinct n .0)
+
+  -- what that precinct leaves: the verdict, and the cells
+  abbrev pub sliceReads : ℕ → Verdict × List ℤ
+  sliceReads n = precinct s c (rowOf s c t n) (columnOf s c t n) (beforePrecinct n .0) (isTop s c t n) (beforePrecinct n .2)
 
 -- of a stream, whose first slice header stands at the state's place
 module _ (s : List ℕ) (c : Setting) (x : State) where
