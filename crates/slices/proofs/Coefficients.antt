@@ -1,9 +1,9 @@
 -- What an accepted slice and an accepted stream leave: every coefficient of their bands, by the quantiser and the T of its own precinct. Assumes
 -- nothing.
-use Prim.Native.Nat.{ℕ, suc, _+_, _*_, _/_, _%_, _≤_, _<_}
+use Prim.Native.Nat.{ℕ, _+_, _*_, _/_, _%_, _≤_, _<_}
 use mathlib.Core.Path.{_≡_, refl, sym, ap, _∙_}
 use mathlib.Core.List.{List}
-use native.Mathlib.Nat.{div-add-mod', mul-suc, mul-le-mul-left}
+use native.Mathlib.Nat.{div-add-mod'}
 use native.Mathlib.Decide.{decLt}
 use native.Mathlib.Omega.{arith}
 use lib.ListN.{length}
@@ -13,7 +13,6 @@ use Rattle.rows.specs.declared.Verdict.the-variants.{Fine}
 use Rattle.wavelet.specs.Transform.{Kind}
 use Rattle.wavelet.specs.Bands.{τx, τy, Coefficient}
 use Rattle.wavelet.specs.Places.{place as at}
-use Rattle.layout.specs.declared.Shape.{Shape}
 use Rattle.layout.specs.Bands.{Wc, Hc, N′x, N′y, NL, Nβ, kind, dx, depth, band}
 use Rattle.layout.specs.Precincts.{Npx, Np, slices, slice-top, Member}
 use Rattle.layout.specs.Cells.{start, inner, cell as place}
@@ -25,6 +24,7 @@ use Rattle.packets.specs.declared.Setting.{Setting}
 use Rattle.packets.specs.declared.Precinct.{Precinct}
 use Rattle.packets.specs.Ready.{Settled}
 use Rattle.packets.proofs.Addresses.{There}
+use Rattle.packets.proofs.Lines.{band-below}
 use Rattle.packets.proofs.Laws.{Apart}
 use Rattle.slices.specs.Precinct.{raised}
 use Rattle.slices.specs.Slice.{State, Left, rowOf, columnOf, isTop, precinctTurn, slice}
@@ -40,9 +40,6 @@ same-number : (N n g top : ℕ) → top + n / N ≡ top + g / N → n % N ≡ g 
 same-number N n g top e f =
     let q : n / N ≡ g / N = omega arith in
     sym (div-add-mod' n N) ∙ (λ i. q i * N + f i) ∙ div-add-mod' g N
-
-band-below : (s : Shape) (β i : ℕ) → β < Nβ s → i < s .nc → band s β i < NL s
-band-below s β i k h = omega (arith, mul-suc (s .nc) β, mul-le-mul-left {m = suc β} {n = Nβ s} (s .nc) k)
 
 -- ---- slice t, whose header stands at the state's place, and coefficient (x, y) of filter type β of component i
 
@@ -71,7 +68,7 @@ module _ (s : List ℕ) (c : Setting) (settled : Settled c) {i β x y : ℕ} (h 
             precinct-leaves c settled h e s (rowOf s c t g) (columnOf s c t g) (beforePrecinct s c from t g .0) (isTop s c t g) (q .2 before)
             (column-inside (c .shape) (settled .shape) t l g w)
             (λ d f. omega (arith, same-number (Npx (c .shape)) n g (slice-top (c .shape) t) d f))
-            (omega (arith, q .1, band-below (c .shape) β i (e .type) h))
+            (omega (arith, q .1, band-below (c .shape) β i h (e .type)))
         pick accepted (no after) u =
             let same : g ≡ n = omega arith in
             let q′ = rw same at q in
@@ -93,7 +90,7 @@ module _ (s : List ℕ) (c : Setting) (settled : Settled c) {i β x y : ℕ} (h 
       stored-still (slice s c t from .1 .1) (slice s c t from .1 .2) q
       (still (place (c .shape) β i x y) (λ row column slot j a. far-coefficient c settled h e (q .member) a))
       (still (countOf (c .shape) (p .column) β i x y) (λ row column slot j a. far-count c settled h e (q .member) a))
-      (slice-tops-up s c t from (band (c .shape) β i) (omega (arith, band-below (c .shape) β i (e .type) h)))
+      (slice-tops-up s c t from (band (c .shape) β i) (omega (arith, band-below (c .shape) β i h (e .type))))
     where
       still : (n : ℕ)
           → ((row column slot j : ℕ) → There (c .shape) row column slot j → (p .row ≡ row → p .column ≡ column → ⊥)

@@ -3,7 +3,6 @@ use Prim.Native.Nat.{ℕ, _+_, _-_, _*_, _/_, _%_, _≤_, _<_}
 use mathlib.Core.Path.{_≡_, refl, sym, ap, _∙_}
 use mathlib.Core.Bool.{Bool, true, false, cond}
 use mathlib.Core.List.{List}
-use native.Mathlib.Nat.{mod-eq-of-lt, div-eq-of-lt, mul-add-div, mul-add-mod-self-left}
 use native.Mathlib.Decide.{decLt}
 use native.Mathlib.Omega.{arith}
 use borrow.Author.Tests.{lt-ltb}
@@ -32,7 +31,7 @@ use Rattle.packets.specs.Precincts.{T}
 use Rattle.packets.specs.Ready.{Settled, Slotted}
 use Rattle.packets.specs.Packets.{anyLine, packet}
 use Rattle.packets.proofs.Addresses.{There, same-line, same-counts, count-apart, Addressed, addressed}
-use Rattle.packets.proofs.Lines.{lies}
+use Rattle.packets.proofs.Lines.{band-below, band-parts}
 use Rattle.packets.proofs.LinePasses.{T-most, any-later}
 use Rattle.packets.proofs.Laws.{Apart, packet-length, packet-other}
 use Rattle.packets.proofs.Coefficients.{IsCoefficient, packet-writes}
@@ -197,11 +196,10 @@ pub member-holds : (c : Setting) (p : Precinct) → Built (c .shape) → {i β x
     → Member (c .shape) (p .row) (p .column) β i x y → holds c p (band (c .shape) β i) ≡ true
 member-holds c p built {i} {β} {x} {y} h e m =
     let s = c .shape in
-    let q : (s .nc * β + i) / s .nc ≡ β = mul-add-div (built .some) β i ∙ omega (arith, div-eq-of-lt h) in
-    let r : (s .nc * β + i) % s .nc ≡ i = mul-add-mod-self-left (s .nc) β i ∙ mod-eq-of-lt h in
+    let parts = band-parts s β i h in
     let row : p .row ≡ y / most-lines s β i = m .down ∙ row-of s built β i h y in
     let some : 0 < lines s (y / most-lines s β i) β i = omega (arith, member-line s built β i h y (e .row)) in
-    rw (q, r, row, e .there, lt-ltb 0 (lines s (y / most-lines s β i) β i) some)
+    rw (parts .0, parts .1, row, e .there, lt-ltb 0 (lines s (y / most-lines s β i) β i) some)
 
 module _ (c : Setting) (settled : Settled c) {i β x y : ℕ} (h : i < c .shape .nc) (e : Exists (c .shape) i β x y) where
   module _ {row column : ℕ} (m : Member (c .shape) row column β i x y) where
@@ -216,9 +214,7 @@ module _ (c : Setting) (settled : Settled c) {i β x y : ℕ} (h : i < c .shape 
     precinct-coefficients s at top tops cells down room long fine =
         let p = precinctAt s c row column at in
         let a = address .there in
-        let slotted : Slotted c p (address .slot) = record { settled = settled; row = down; column = a .across; which = a .which } in
-        let lying = lies c p (address .slot) (address .j) slotted (a .candidate) (a .present) in
-        let b : band (c .shape) β i < NL (c .shape) = omega (arith, address .band, lying .band) in
+        let b = band-below (c .shape) β i h (e .type) in
         let q = precinct-brings c settled a (x - first-x (c .shape) column β i) (address .inside) s at down top cells room fine in
         record {
           member = m;
