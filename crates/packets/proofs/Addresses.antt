@@ -37,7 +37,8 @@ same-cell s built {β} {β′} {i} {i′} {x} {x′} {y} {y′} h h′ c d e = p
         (sym q, same .0, same .1, same .2)
 
 -- a is a coefficient cell of component i, and b one of component i′
-module _ (s : Shape) (i i′ a b : ℕ) (low : start s i ≤ a) (high : a < start s i + area s i) (low′ : start s i′ ≤ b) (high′ : b < start s i′ + area s i′) where
+module _ (s : Shape) (i i′ a b : ℕ) (low : start s i ≤ a) (high : a < start s i + area s i) (low′ : start s i′ ≤ b)
+    (high′ : b < start s i′ + area s i′) where
   -- their count cells are the same where they are
   counts-same : a + area s i ≡ b + area s i′ → a ≡ b
   counts-same e = pick (decLt i i′) (decLt i′ i)
@@ -113,7 +114,8 @@ module _ (s : Shape) (built : Built s) {row column slot j : ℕ} (a : There s ro
     -- it tells the precinct's column
     there-column : column-at x * (sx s (part s slot j) * 2 ^ dx s (type s slot j)) / Cs s ≡ column
     unfolding line-at lineOf
-    there-column = column-member s built (type s slot j) (part s slot j) (fits .0) part-below column (column-at x) (a .across) (omega arith) (omega arith) .1
+    there-column =
+        column-member s built (type s slot j) (part s slot j) (fits .0) part-below column (column-at x) (a .across) (omega arith) (omega arith) .1
 
   there-area : line-at s row column slot j .area ≡ area s (part s slot j)
   unfolding line-at lineOf
@@ -139,9 +141,9 @@ module _ (s : Shape) (built : Built s) {row row′ column column′ slot slot′
   -- lines that share a coefficient cell are one
   pub same-line : cell-at s built a x ≡ cell-at s built b x′ → SameLine row row′ column column′ slot slot′ j j′
   same-line e =
-      let at : cell s (type s slot j) (part s slot j) (column-at s built a x) (down s slot j row) ≡ cell s (type s slot′ j′) (part s slot′ j′) (column-at s built b x′) (down s slot′ j′ row′) =
-      sym (there-cell s built a x h) ∙ e ∙ there-cell s built b x′ h′ in
-      let q = same-cell s built (part-below s built a) (part-below s built b) (there-exists s built a x h) (there-exists s built b x′ h′) at in
+      let q =
+      same-cell s built (part-below s built a) (part-below s built b) (there-exists s built a x h) (there-exists s built b x′ h′)
+      (sym (there-cell s built a x h) ∙ e ∙ there-cell s built b x′ h′) in
       let r : row ≡ row′ = sym (there-row s built a) ∙ (λ n. q .3 n / most-lines s (q .1 n) (q .0 n)) ∙ there-row s built b in
       let same =
       one-line s built (type s slot j) (part s slot j) (fits s built a .0) (part-below s built a) {row = row} {y = down s slot j row}
@@ -212,7 +214,8 @@ module _ (s : Shape) (built : Built s) {i β x y : ℕ} (h : i < s .nc) (e : Exi
         candidate = m .candidate;
         present = (λ n. included s row-here (m .type n) (m .component n) (slot-line (m .k))) ∙ m .present;
       } in
-      let wide : Wpb s column-here (type s (m .k) (m .j)) (part s (m .k) (m .j)) ≡ Wpb s column-here β i = λ n. Wpb s column-here (m .type n) (m .component n) in
+      let wide : Wpb s column-here (type s (m .k) (m .j)) (part s (m .k) (m .j)) ≡ Wpb s column-here β i =
+      λ n. Wpb s column-here (m .type n) (m .component n) in
       let at : (n : ℕ) → n < Wpb s column-here β i → cell-at s built t n ≡ cell s β i (first-x s column-here β i + n) y =
       λ n l. there-cell s built t n (omega arith)
       ∙ (λ z.

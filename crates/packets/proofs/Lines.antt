@@ -30,15 +30,23 @@ first-true : (a b c : Bool) → a && b && c ≡ true → a ≡ true
 first-true true b c e = refl
 first-true false b c e = let z : _≡_ {A = ℕ} 0 1 = cc in absurd (omega arith)
 
-module _ (s : Shape) (built : Built s) (row column β i l : ℕ) (type : β < Nβ s) (h : i < s .nc) where
-  own-band : band s β i < NL s
-  own-band = omega (arith, mul-suc (s .nc) β, mul-le-mul-left {m = suc β} {n = Nβ s} (s .nc) type)
+-- ---- the index of a band
 
+module _ (s : Shape) (β i : ℕ) (h : i < s .nc) where
+  pub band-below : β < Nβ s → band s β i < NL s
+  band-below type = omega (arith, mul-suc (s .nc) β, mul-le-mul-left {m = suc β} {n = Nβ s} (s .nc) type)
+
+  -- it tells the filter type and the component
+  pub band-parts : (band s β i / s .nc ≡ β) × (band s β i % s .nc ≡ i)
+  band-parts = (mul-add-div (omega arith) β i ∙ omega (arith, div-eq-of-lt h), mul-add-mod-self-left (s .nc) β i ∙ mod-eq-of-lt h)
+
+-- ---- where a line lies
+
+module _ (s : Shape) (built : Built s) (row column β i l : ℕ) (type : β < Nβ s) (h : i < s .nc) where
   own-exists : exists s β i ≡ true → band-exists s (band s β i) ≡ true
   own-exists e =
-      let q : (s .nc * β + i) / s .nc ≡ β = mul-add-div (built .some) β i ∙ omega (arith, div-eq-of-lt h) in
-      let r : (s .nc * β + i) % s .nc ≡ i = mul-add-mod-self-left (s .nc) β i ∙ mod-eq-of-lt h in
-      rw (q, r) e
+      let parts = band-parts s β i h in
+      rw (parts .0, parts .1) e
 
   -- the line above lies before it
   own-above : 0 < row → 2 ^ depth s β i * Wc s i ≤ inner s β i (first-x s column β i) (first-y s row β i + l / sy s i)
@@ -70,7 +78,7 @@ module _ (s : Shape) (built : Built s) (row column β i l : ℕ) (type : β < N�
       apart = apart;
       narrow = omega (arith, narrow);
       few = omega (arith, narrow);
-      band = own-band;
+      band = band-below s β i h type;
       exists = own-exists (first-true (exists s β i) (eqb ((l + L0 s β i) % sy s i) 0) (ltb (l + L0 s β i) (L1 s row β i)) there);
       above = λ up. omega (arith, own-above up);
     }

@@ -33,8 +33,8 @@ use Rattle.packets.proofs.Lines.{lies, there-in}
 use Rattle.packets.proofs.Laws.{clash, cut-refused, high-refused, values-keep}
 
 -- group g of line j
-module _ (c : Setting) (p : Precinct) (slot : ℕ) (h : Slotted c p slot) (j g : ℕ) (k : j < candidates (c .shape) slot) (there : line c p slot j .present ≡ true)
-    (f : g < groups (placeOf (line c p slot j))) where
+module _ (c : Setting) (p : Precinct) (slot : ℕ) (h : Slotted c p slot) (j g : ℕ) (k : j < candidates (c .shape) slot)
+    (there : line c p slot j .present ≡ true) (f : g < groups (placeOf (line c p slot j))) where
   abbrev at : ℕ
   at = countCell (placeOf (line c p slot j)) g
 
@@ -64,13 +64,15 @@ module _ (c : Setting) (p : Precinct) (slot : ℕ) (h : Slotted c p slot) (j g :
         done-holds cnt sig (code j) (placeOf (line c p slot j)) (x .0) (marks s c p slot raw j) (x .2) e
         (λ i m. omega (arith, lies c p slot j h k there .inside (4 * i) (omega arith))) g f
 
-    leaves : (n : ℕ) (x : Counting) → n < candidates (c .shape) slot → line c p slot n .present ≡ true → (j ≡ n → ⊥) → cell (counting n x .1) at ≡ cell (x .2) at
+    leaves : (n : ℕ) (x : Counting) → n < candidates (c .shape) slot → line c p slot n .present ≡ true → (j ≡ n → ⊥)
+        → cell (counting n x .1) at ≡ cell (x .2) at
     leaves n x l e other =
         counts-other cnt sig (code n) (placeOf (line c p slot n)) (x .0) (marks s c p slot raw n) (x .2) at
-        (λ i m z. other (same-counts (c .shape) (h .settled .shape) (there-in h k there) (there-in h l e) (4 * g) (4 * i) (omega arith) (omega arith) z .candidates))
+        (λ i m z.
+        other (same-counts (c .shape) (h .settled .shape) (there-in h k there) (there-in h l e) (4 * g) (4 * i) (omega arith) (omega arith) z .candidates))
 
-    by-result : (n : ℕ) (x : Counting) → n < candidates (c .shape) slot → Carries n x → line c p slot n .present ≡ true → (y : Counted × List ℤ) → counting n x ≡ y
-        → Kept (Carries (n + 1)) Counts (counted (x .1) y)
+    by-result : (n : ℕ) (x : Counting) → n < candidates (c .shape) slot → Carries n x → line c p slot n .present ≡ true → (y : Counted × List ℤ)
+        → counting n x ≡ y → Kept (Carries (n + 1)) Counts (counted (x .1) y)
     by-result n x l q e (Done next more, l′) r = (
       ap (λ (y : Counted × List ℤ). length (y .1)) (sym r)
           ∙ counts-length cnt sig (code n) (placeOf (line c p slot n)) (x .0) (marks s c p slot raw n) (x .2)
@@ -105,7 +107,8 @@ module _ (c : Setting) (p : Precinct) (slot : ℕ) (h : Slotted c p slot) (j g :
     unfolding packetCounts countTurn
     counts-hold =
         run-carries Carries Counts (countTurn s c p slot cnt sig raw) _ (candidates (c .shape) slot) (λ x q. q .1 k)
-        (λ n x l q. pick n x l q (line c p slot n .present) refl) (candidates (c .shape) slot) 0 (0, 0, cells) (omega arith) (refl, λ l. absurd (omega arith))
+        (λ n x l q. pick n x l q (line c p slot n .present) refl) (candidates (c .shape) slot) 0 (0, 0, cells) (omega arith)
+        (refl, λ l. absurd (omega arith))
 
   module _ (s : List ℕ) (from : ℕ) where
     by-values : (v : Verdict) (cells : List ℤ) → own cells → own (valuesBy s c p slot from v cells .1)

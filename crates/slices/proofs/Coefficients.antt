@@ -1,8 +1,9 @@
--- What an accepted slice and an accepted stream leave: every coefficient of their bands, by the quantiser and the T of its own precinct. Assumes nothing.
-use Prim.Native.Nat.{ℕ, suc, _+_, _*_, _/_, _%_, _≤_, _<_}
+-- What an accepted slice and an accepted stream leave: every coefficient of their bands, by the quantiser and the T of its own precinct. Assumes
+-- nothing.
+use Prim.Native.Nat.{ℕ, _+_, _*_, _/_, _%_, _≤_, _<_}
 use mathlib.Core.Path.{_≡_, refl, sym, ap, _∙_}
 use mathlib.Core.List.{List}
-use native.Mathlib.Nat.{div-add-mod', mul-suc, mul-le-mul-left}
+use native.Mathlib.Nat.{div-add-mod'}
 use native.Mathlib.Decide.{decLt}
 use native.Mathlib.Omega.{arith}
 use lib.ListN.{length}
@@ -12,7 +13,6 @@ use Rattle.rows.specs.declared.Verdict.the-variants.{Fine}
 use Rattle.wavelet.specs.Transform.{Kind}
 use Rattle.wavelet.specs.Bands.{τx, τy, Coefficient}
 use Rattle.wavelet.specs.Places.{place as at}
-use Rattle.layout.specs.declared.Shape.{Shape}
 use Rattle.layout.specs.Bands.{Wc, Hc, N′x, N′y, NL, Nβ, kind, dx, depth, band}
 use Rattle.layout.specs.Precincts.{Npx, Np, slices, slice-top, Member}
 use Rattle.layout.specs.Cells.{start, inner, cell as place}
@@ -24,6 +24,7 @@ use Rattle.packets.specs.declared.Setting.{Setting}
 use Rattle.packets.specs.declared.Precinct.{Precinct}
 use Rattle.packets.specs.Ready.{Settled}
 use Rattle.packets.proofs.Addresses.{There}
+use Rattle.packets.proofs.Lines.{band-below}
 use Rattle.packets.proofs.Laws.{Apart}
 use Rattle.slices.specs.Precinct.{raised}
 use Rattle.slices.specs.Slice.{State, Left, rowOf, columnOf, isTop, precinctTurn, slice}
@@ -40,9 +41,6 @@ same-number N n g top e f =
     let q : n / N ≡ g / N = omega arith in
     sym (div-add-mod' n N) ∙ (λ i. q i * N + f i) ∙ div-add-mod' g N
 
-band-below : (s : Shape) (β i : ℕ) → β < Nβ s → i < s .nc → band s β i < NL s
-band-below s β i k h = omega (arith, mul-suc (s .nc) β, mul-le-mul-left {m = suc β} {n = Nβ s} (s .nc) k)
-
 -- ---- slice t, whose header stands at the state's place, and coefficient (x, y) of filter type β of component i
 
 module _ (s : List ℕ) (c : Setting) (settled : Settled c) {i β x y : ℕ} (h : i < c .shape .nc) (e : Exists (c .shape) i β x y)
@@ -51,7 +49,8 @@ module _ (s : List ℕ) (c : Setting) (settled : Settled c) {i β x y : ℕ} (h 
   module _ (room : start (c .shape) (c .shape .nc) ≤ length (from .2)) (fine : slice s c t from .0 ≡ Fine)
       (n : ℕ) (k : n < Np (c .shape) t) (m : Member (c .shape) (rowOf s c t n) (columnOf s c t n) β i x y) where
     abbrev InSlice : ℕ → State → Type 0
-    InSlice g z = (length (z .2) ≡ length (from .2)) × (length (z .1) ≡ length (from .1)) × (n < g → Stored c (sliceHas s c from t n) (z .1) (z .2) i β x y)
+    InSlice g z =
+        (length (z .2) ≡ length (from .2)) × (length (z .1) ≡ length (from .1)) × (n < g → Stored c (sliceHas s c from t n) (z .1) (z .2) i β x y)
 
     precinct-carries : (g : ℕ) → g < Np (c .shape) t → InSlice g (beforePrecinct s c from t g) → InSlice (g + 1) (beforePrecinct s c from t (g + 1))
     precinct-carries g w q =
@@ -63,12 +62,13 @@ module _ (s : List ℕ) (c : Setting) (settled : Settled c) {i β x y : ℕ} (h 
         )
       where
         pick : sliceReads s c from t g .0 ≡ Fine → Dec (n < g) → n < g + 1
-            → Stored c (sliceHas s c from t n) (raised c (sliceHas s c from t g) (NL (c .shape)) (beforePrecinct s c from t g .1)) (sliceReads s c from t g .1) i β x y
+            → Stored c (sliceHas s c from t n) (raised c (sliceHas s c from t g) (NL (c .shape)) (beforePrecinct s c from t g .1))
+            (sliceReads s c from t g .1) i β x y
         pick accepted (yes before) u =
             precinct-leaves c settled h e s (rowOf s c t g) (columnOf s c t g) (beforePrecinct s c from t g .0) (isTop s c t g) (q .2 before)
             (column-inside (c .shape) (settled .shape) t l g w)
             (λ d f. omega (arith, same-number (Npx (c .shape)) n g (slice-top (c .shape) t) d f))
-            (omega (arith, q .1, band-below (c .shape) β i (e .type) h))
+            (omega (arith, q .1, band-below (c .shape) β i h (e .type)))
         pick accepted (no after) u =
             let same : g ≡ n = omega arith in
             let q′ = rw same at q in
@@ -79,8 +79,9 @@ module _ (s : List ℕ) (c : Setting) (settled : Settled c) {i β x y : ℕ} (h 
 
     pub slice-coefficients : Stored c (sliceHas s c from t n) (slice s c t from .1 .1) (slice s c t from .1 .2) i β x y
     slice-coefficients =
+        let first : InSlice 0 (from .0 + 6, from .1, from .2) = (refl, refl, λ u. absurd (omega arith)) in
         rw (slice-left s c t from fine)
-        (before-carries (precinctTurn s c t) (from .0 + 6, from .1, from .2) InSlice (Np (c .shape) t) (refl, refl, λ u. absurd (omega arith)) precinct-carries .2 k)
+        (before-carries (precinctTurn s c t) (from .0 + 6, from .1, from .2) InSlice (Np (c .shape) t) first precinct-carries .2 k)
 
   -- and any slice leaves it where it belongs to a precinct of another slice
   pub slice-leaves : {p : Precinct} → Stored c p (from .1) (from .2) i β x y → (p .row / c .shape .hsl ≡ t → ⊥)
@@ -89,10 +90,11 @@ module _ (s : List ℕ) (c : Setting) (settled : Settled c) {i β x y : ℕ} (h 
       stored-still (slice s c t from .1 .1) (slice s c t from .1 .2) q
       (still (place (c .shape) β i x y) (λ row column slot j a. far-coefficient c settled h e (q .member) a))
       (still (countOf (c .shape) (p .column) β i x y) (λ row column slot j a. far-count c settled h e (q .member) a))
-      (slice-tops-up s c t from (band (c .shape) β i) (omega (arith, band-below (c .shape) β i (e .type) h)))
+      (slice-tops-up s c t from (band (c .shape) β i) (omega (arith, band-below (c .shape) β i h (e .type))))
     where
       still : (n : ℕ)
-          → ((row column slot j : ℕ) → There (c .shape) row column slot j → (p .row ≡ row → p .column ≡ column → ⊥) → Apart (line-at (c .shape) row column slot j) n)
+          → ((row column slot j : ℕ) → There (c .shape) row column slot j → (p .row ≡ row → p .column ≡ column → ⊥)
+          → Apart (line-at (c .shape) row column slot j) n)
           → cell (slice s c t from .1 .2) n ≡ cell (from .2) n
       still n apart =
           slice-other s c settled n t l
@@ -125,9 +127,11 @@ module _ (s : List ℕ) (c : Setting) (settled : Settled c) (from : State) (room
     (long : NL (c .shape) ≤ length (from .1)) (fine : stream s c from .0 ≡ Fine) {i : ℕ} (h : i < c .shape .nc) where
   module _ {β x y : ℕ} (e : Exists (c .shape) i β x y) where
     -- an accepted stream leaves it where it belongs to precinct n of slice t
-    module _ (t : ℕ) (l : t < slices (c .shape)) (n : ℕ) (k : n < Np (c .shape) t) (m : Member (c .shape) (rowOf s c t n) (columnOf s c t n) β i x y) where
+    module _ (t : ℕ) (l : t < slices (c .shape)) (n : ℕ) (k : n < Np (c .shape) t)
+        (m : Member (c .shape) (rowOf s c t n) (columnOf s c t n) β i x y) where
       abbrev InStream : ℕ → State → Type 0
-      InStream g z = (length (z .2) ≡ length (from .2)) × (length (z .1) ≡ length (from .1)) × (t < g → Stored c (streamHas s c from t n) (z .1) (z .2) i β x y)
+      InStream g z =
+          (length (z .2) ≡ length (from .2)) × (length (z .1) ≡ length (from .1)) × (t < g → Stored c (streamHas s c from t n) (z .1) (z .2) i β x y)
 
       slice-carries : (g : ℕ) → g < slices (c .shape) → InStream g (beforeSlice s c from g) → InStream (g + 1) (beforeSlice s c from (g + 1))
       slice-carries g w q =
@@ -146,11 +150,13 @@ module _ (s : List ℕ) (c : Setting) (settled : Settled c) (from : State) (room
           pick accepted (no after) u =
               let same : g ≡ t = omega arith in
               let q′ = rw same at q in
-              rw same (slice-coefficients s c settled h e t l (beforeSlice s c from t) (omega (arith, q′ .1)) (omega (arith, q′ .0)) (rw same at accepted) n k m)
+              rw same
+              (slice-coefficients s c settled h e t l (beforeSlice s c from t) (omega (arith, q′ .1)) (omega (arith, q′ .0)) (rw same at accepted) n k m)
 
       pub stream-precinct : Stored c (streamHas s c from t n) (stream s c from .1 .1) (stream s c from .1 .2) i β x y
       stream-precinct =
-          rw (stream-left s c from fine) (before-carries (sliceTurn s c) from InStream (slices (c .shape)) (refl, refl, λ u. absurd (omega arith)) slice-carries .2 l)
+          let first : InStream 0 from = (refl, refl, λ u. absurd (omega arith)) in
+          rw (stream-left s c from fine) (before-carries (sliceTurn s c) from InStream (slices (c .shape)) first slice-carries .2 l)
 
     -- and there is such a precinct
     pub stream-coefficients : StoredIn s c from i β x y
@@ -170,8 +176,9 @@ module _ (s : List ℕ) (c : Setting) (settled : Settled c) (from : State) (room
               });
         }
 
-  pub stream-bands : {k : Kind} {across down x y : ℕ} → Coefficient (Wc (c .shape) i) (Hc (c .shape) i) (N′x (c .shape) i) (N′y (c .shape) i) k across down x y
-      → StoredAs s c from i k across down x y
+  -- and so each coefficient that the inverse transform takes
+  pub stream-bands : {k : Kind} {across down x y : ℕ}
+      → Coefficient (Wc (c .shape) i) (Hc (c .shape) i) (N′x (c .shape) i) (N′y (c .shape) i) k across down x y → StoredAs s c from i k across down x y
   stream-bands {k} {across} {down} d =
       let b = has-band (c .shape) (settled .shape) i h k across down (d .has) in
       record {

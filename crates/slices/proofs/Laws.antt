@@ -104,9 +104,11 @@ module _ (s : List ℕ) (c : Setting) (P : List ℤ → Type 0) where
 
 -- ---- the cells: as many as before, and none changed behind those of the components
 
-pub precinct-length : (s : List ℕ) (c : Setting) (row column at : ℕ) (top : Bool) (cells : List ℤ) → length (precinct s c row column at top cells .1) ≡ length cells
+pub precinct-length : (s : List ℕ) (c : Setting) (row column at : ℕ) (top : Bool) (cells : List ℤ)
+    → length (precinct s c row column at top cells .1) ≡ length cells
 precinct-length s c row column at top cells =
-    precinct-keeps s c (λ z. length z ≡ length cells) row column at (λ slot place raws z l e. packet-length s c (precinctAt s c row column at) slot place raws z ∙ e) top cells refl
+    precinct-keeps s c (λ z. length z ≡ length cells) row column at
+    (λ slot place raws z l e. packet-length s c (precinctAt s c row column at) slot place raws z ∙ e) top cells refl
 
 module _ (s : List ℕ) (c : Setting) (settled : Settled c) where
   length-kept : (n t : ℕ) → PacketsKeep s c (λ z. length z ≡ n) t

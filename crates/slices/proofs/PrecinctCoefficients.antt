@@ -3,7 +3,6 @@ use Prim.Native.Nat.{ℕ, _+_, _-_, _*_, _/_, _%_, _≤_, _<_}
 use mathlib.Core.Path.{_≡_, refl, sym, ap, _∙_}
 use mathlib.Core.Bool.{Bool, true, false, cond}
 use mathlib.Core.List.{List}
-use native.Mathlib.Nat.{mod-eq-of-lt, div-eq-of-lt, mul-add-div, mul-add-mod-self-left}
 use native.Mathlib.Decide.{decLt}
 use native.Mathlib.Omega.{arith}
 use borrow.Author.Tests.{lt-ltb}
@@ -32,7 +31,7 @@ use Rattle.packets.specs.Precincts.{T}
 use Rattle.packets.specs.Ready.{Settled, Slotted}
 use Rattle.packets.specs.Packets.{anyLine, packet}
 use Rattle.packets.proofs.Addresses.{There, same-line, same-counts, count-apart, Addressed, addressed}
-use Rattle.packets.proofs.Lines.{lies}
+use Rattle.packets.proofs.Lines.{band-below, band-parts}
 use Rattle.packets.proofs.LinePasses.{T-most, any-later}
 use Rattle.packets.proofs.Laws.{Apart, packet-length, packet-other}
 use Rattle.packets.proofs.Coefficients.{IsCoefficient, packet-writes}
@@ -54,12 +53,14 @@ unfolding countIn
 count-is (pos n) = refl
 count-is (negsuc n) = refl
 
-module _ (c : Setting) (settled : Settled c) {row column slot j : ℕ} (a : There (c .shape) row column slot j) (n : ℕ) (h : n < line-at (c .shape) row column slot j .width) where
+module _ (c : Setting) (settled : Settled c) {row column slot j : ℕ} (a : There (c .shape) row column slot j)
+    (n : ℕ) (h : n < line-at (c .shape) row column slot j .width) where
   abbrev coefficientAt : ℕ
   coefficientAt = line-at (c .shape) row column slot j .cell + n * line-at (c .shape) row column slot j .stride
 
   abbrev countAt : ℕ
-  countAt = line-at (c .shape) row column slot j .cell + 4 * (n / 4) * line-at (c .shape) row column slot j .stride + line-at (c .shape) row column slot j .area
+  countAt =
+      line-at (c .shape) row column slot j .cell + 4 * (n / 4) * line-at (c .shape) row column slot j .stride + line-at (c .shape) row column slot j .area
 
   abbrev own : ℕ → List ℤ → Type 0
   own t l = Brought c t (cell l coefficientAt) (cell l countAt)
@@ -87,8 +88,8 @@ module _ (c : Setting) (settled : Settled c) {row column slot j : ℕ} (a : Ther
     t = T c p (line-at (c .shape) row column slot j .band)
 
     -- the line's own packet brings it
-    packet-brings : (from : ℕ) (raws : List ℕ) (cells : List ℤ) → start (c .shape) (c .shape .nc) ≤ length cells → packet s c p slot from raws cells .0 ≡ Fine
-        → own t (packet s c p slot from raws cells .1)
+    packet-brings : (from : ℕ) (raws : List ℕ) (cells : List ℤ) → start (c .shape) (c .shape .nc) ≤ length cells
+        → packet s c p slot from raws cells .0 ≡ Fine → own t (packet s c p slot from raws cells .1)
     unfolding M
     packet-brings from raws cells room e =
         let slotted : Slotted c p slot = record { settled = settled; row = down; column = a .across; which = a .which } in
@@ -101,7 +102,8 @@ module _ (c : Setting) (settled : Settled c) {row column slot j : ℕ} (a : Ther
         }
 
     -- and another packet leaves it
-    packet-spares : (g from : ℕ) (raws : List ℕ) (cells : List ℤ) → g < slots (c .shape) → (slot ≡ g → ⊥) → own t cells → own t (packet s c p g from raws cells .1)
+    packet-spares : (g from : ℕ) (raws : List ℕ) (cells : List ℤ) → g < slots (c .shape) → (slot ≡ g → ⊥) → own t cells
+        → own t (packet s c p g from raws cells .1)
     packet-spares g from raws cells l other q =
         let b : (i : ℕ) → i < candidates (c .shape) g → line-at (c .shape) row column g i .present ≡ true → There (c .shape) row column g i =
         λ i m e. record { across = a .across; which = l; candidate = m; present = e } in
@@ -116,12 +118,13 @@ module _ (c : Setting) (settled : Settled c) {row column slot j : ℕ} (a : Ther
     abbrev Accepted : Verdict × List ℤ → Type 0
     Accepted r = r .0 ≡ Fine → own t (r .1)
 
-    packet-turn : (cells : List ℤ) → start (c .shape) (c .shape .nc) ≤ length cells → (g : ℕ) (x : Packing s c row column at) → g < slots (c .shape) → Carries cells g x
-        → Kept (Carries cells (g + 1)) Accepted (packetTurn s c row column at g x)
+    packet-turn : (cells : List ℤ) → start (c .shape) (c .shape .nc) ≤ length cells → (g : ℕ) (x : Packing s c row column at) → g < slots (c .shape)
+        → Carries cells g x → Kept (Carries cells (g + 1)) Accepted (packetTurn s c row column at g x)
     unfolding packetTurn
     packet-turn cells room g x l q = by (anyLine c p g (candidates (c .shape) g)) refl
       where
-        by-result : (y : Verdict × List ℤ) → packet s c p g (x .0) (x .1) (x .2) ≡ y → Kept (Carries cells (g + 1)) Accepted (packed s c row column at g (x .0) (x .1) y)
+        by-result : (y : Verdict × List ℤ) → packet s c p g (x .0) (x .1) (x .2) ≡ y
+            → Kept (Carries cells (g + 1)) Accepted (packed s c row column at g (x .0) (x .1) y)
         by-result (Fine, l′) r = (
           ap (λ (y : Verdict × List ℤ). length (y .1)) (sym r) ∙ packet-length s c p g (x .0) (x .1) (x .2) ∙ q .0,
           λ u. rw (ap (λ (y : Verdict × List ℤ). y .1) r) at (pick (decLt slot g) u),
@@ -155,8 +158,9 @@ module _ (c : Setting) (settled : Settled c) {row column slot j : ℕ} (a : Ther
       where
         by : (v : Verdict) → packetsBy s c row column at v cells .0 ≡ Fine → own t (packetsBy s c row column at v cells .1)
         by Fine =
-            run-carries (Carries cells) Accepted (packetTurn s c row column at) (λ x. (first (restChecks s c row column at (x .0)), x .2)) (slots (c .shape)) (λ x q e. q .1 (a .which))
-            (packet-turn cells room) (slots (c .shape)) 0 (body s c row column at, noFlags s c row column at, cells) (omega arith) (refl, λ l. absurd (omega arith))
+            run-carries (Carries cells) Accepted (packetTurn s c row column at) (λ x. (first (restChecks s c row column at (x .0)), x .2)) (slots (c .shape))
+            (λ x q e. q .1 (a .which)) (packet-turn cells room) (slots (c .shape)) 0 (body s c row column at, noFlags s c row column at, cells) (omega arith)
+            (refl, λ l. absurd (omega arith))
         by (Refused k) = λ e. clash e
 
 -- ---- coefficient (x, y) of filter type β of component i
@@ -167,14 +171,16 @@ pub record Stored (c : Setting) (p : Precinct) (tops : List ℕ) (l : List ℤ) 
   pub member : Member (c .shape) (p .row) (p .column) β i x y
   -- the count cell of its code group holds T[p,b]
   pub truncation : heldT (cell l (countOf (c .shape) (p .column) β i x y)) ≡ T c p (band (c .shape) β i)
-  -- Annex D, E.3: its own cell holds the coefficient that T[p,b] makes of an index of M − T[p,b] planes, times 2^Fq. M, at most 31, stands in the count cell
-  pub coefficient : IsCoefficient c (T c p (band (c .shape) β i)) (heldM (cell l (countOf (c .shape) (p .column) β i x y))) (cell l (place (c .shape) β i x y))
+  -- Annex D, E.3: its own cell holds the coefficient that T[p,b] makes of an index of M − T[p,b] planes, times 2^Fq. M, at most 31, stands in the count
+  -- cell
+  pub coefficient : IsCoefficient c (T c p (band (c .shape) β i)) (heldM (cell l (countOf (c .shape) (p .column) β i x y)))
+      (cell l (place (c .shape) β i x y))
   -- document 01, distance rule 1: the band's largest T is no less
   pub largest : T c p (band (c .shape) β i) ≤ getD tops (band (c .shape) β i) 0
 
 -- where the largest T of a band is 0, so is the T of each of its coefficients
-pub stored-exact : {c : Setting} {p : Precinct} {tops : List ℕ} {l : List ℤ} {i β x y : ℕ} → Stored c p tops l i β x y → getD tops (band (c .shape) β i) 0 ≡ 0
-    → T c p (band (c .shape) β i) ≡ 0
+pub stored-exact : {c : Setting} {p : Precinct} {tops : List ℕ} {l : List ℤ} {i β x y : ℕ} → Stored c p tops l i β x y
+    → getD tops (band (c .shape) β i) 0 ≡ 0 → T c p (band (c .shape) β i) ≡ 0
 stored-exact q e = omega (arith, q .largest)
 
 -- a reading that leaves its two cells, and lowers no T
@@ -190,11 +196,10 @@ pub member-holds : (c : Setting) (p : Precinct) → Built (c .shape) → {i β x
     → Member (c .shape) (p .row) (p .column) β i x y → holds c p (band (c .shape) β i) ≡ true
 member-holds c p built {i} {β} {x} {y} h e m =
     let s = c .shape in
-    let q : (s .nc * β + i) / s .nc ≡ β = mul-add-div (built .some) β i ∙ omega (arith, div-eq-of-lt h) in
-    let r : (s .nc * β + i) % s .nc ≡ i = mul-add-mod-self-left (s .nc) β i ∙ mod-eq-of-lt h in
+    let parts = band-parts s β i h in
     let row : p .row ≡ y / most-lines s β i = m .down ∙ row-of s built β i h y in
     let some : 0 < lines s (y / most-lines s β i) β i = omega (arith, member-line s built β i h y (e .row)) in
-    rw (q, r, row, e .there, lt-ltb 0 (lines s (y / most-lines s β i) β i) some)
+    rw (parts .0, parts .1, row, e .there, lt-ltb 0 (lines s (y / most-lines s β i) β i) some)
 
 module _ (c : Setting) (settled : Settled c) {i β x y : ℕ} (h : i < c .shape .nc) (e : Exists (c .shape) i β x y) where
   module _ {row column : ℕ} (m : Member (c .shape) row column β i x y) where
@@ -204,12 +209,12 @@ module _ (c : Setting) (settled : Settled c) {i β x y : ℕ} (h : i < c .shape 
     -- an accepted precinct leaves each of its coefficients
     pub precinct-coefficients : (s : List ℕ) (at : ℕ) (top : Bool) (tops : List ℕ) (cells : List ℤ) → row < Npy (c .shape)
         → start (c .shape) (c .shape .nc) ≤ length cells → NL (c .shape) ≤ length tops → precinct s c row column at top cells .0 ≡ Fine
-        → Stored c (precinctAt s c row column at) (raised c (precinctAt s c row column at) (NL (c .shape)) tops) (precinct s c row column at top cells .1) i β x y
+        → Stored c (precinctAt s c row column at) (raised c (precinctAt s c row column at) (NL (c .shape)) tops)
+        (precinct s c row column at top cells .1) i β x y
     precinct-coefficients s at top tops cells down room long fine =
         let p = precinctAt s c row column at in
         let a = address .there in
-        let slotted : Slotted c p (address .slot) = record { settled = settled; row = down; column = a .across; which = a .which } in
-        let b : band (c .shape) β i < NL (c .shape) = omega (arith, address .band, lies c p (address .slot) (address .j) slotted (a .candidate) (a .present) .band) in
+        let b = band-below (c .shape) β i h (e .type) in
         let q = precinct-brings c settled a (x - first-x (c .shape) column β i) (address .inside) s at down top cells room fine in
         record {
           member = m;
@@ -227,7 +232,8 @@ module _ (c : Setting) (settled : Settled c) {i β x y : ℕ} (h : i < c .shape 
 
       pub far-count : Apart (line-at (c .shape) row′ column′ slot j) (countOf (c .shape) column β i x y)
       far-count =
-          rw (address .count) at (apart-count c settled (address .there) (x - first-x (c .shape) column β i) (address .inside) there (λ r q z. other r q))
+          rw (address .count) at
+          (apart-count c settled (address .there) (x - first-x (c .shape) column β i) (address .inside) there (λ r q z. other r q))
 
   -- and so another precinct leaves it
   pub precinct-leaves : {p : Precinct} {tops : List ℕ} {cells : List ℤ} (s : List ℕ) (row column at : ℕ) (top : Bool) → Stored c p tops cells i β x y

@@ -88,7 +88,8 @@ module _ (s : List ℕ) (c : Setting) (x : State) (fine : stream s c x .0 ≡ Fi
   slice-turns : Turns (sliceTurn s c) x (ended s) (slices (c .shape))
   unfolding stream sliceTurn
   slice-turns =
-      run-turns (sliceTurn s c) x (λ (r : Left). r .0 ≡ Fine) (ended s) (slices (c .shape)) (λ g r. slice-stops (slice s c g (beforeSlice s c x g)) r) fine
+      run-turns (sliceTurn s c) x (λ (r : Left). r .0 ≡ Fine) (ended s) (slices (c .shape))
+      (λ g r. slice-stops (slice s c g (beforeSlice s c x g)) r) fine
 
   -- the stream ends behind them and the end marker
   pub stream-left : stream s c x ≡ ended s (beforeSlice s c x (slices (c .shape)))

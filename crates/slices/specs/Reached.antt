@@ -1,5 +1,5 @@
--- How far the reading has come before each slice and each precinct, and so which precinct it is that is read there. The definitions speak of an accepted
--- stream, and of a refused one up to the slice or precinct that is refused.
+-- How far the reading has come before each slice and each precinct, and so which precinct it is that is read there. The definitions speak of an
+-- accepted stream, and of a refused one up to the slice or precinct that is refused.
 use Prim.Native.Nat.{ℕ, _+_, _-_, _*_, _/_}
 use mathlib.Core.List.{List}
 use lib.IntN.{ℤ}
