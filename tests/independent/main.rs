@@ -1,10 +1,11 @@
 //! Reads a codestream from standard input and prints what document 01's page program prints.
 //!
-//! Usage: `page [--any] [--caption | --layout | --time N]`. `--any` lifts the page program's limits. Instead of the page,
-//! `--caption` prints the caption's bytes, `--layout` where the header puts bands, precincts, packets and lines, and
-//! `--time` the shortest time of N readings.
+//! Usage: `page [--any] [--caption | --layout | --pictures NAME | --time N]`. `--any` lifts the page program's limits.
+//! Instead of the page, `--caption` prints the caption's bytes, `--layout` where the header puts bands, precincts, packets
+//! and lines, and `--time` the shortest time of N readings. `--pictures` writes the samples to files and prints the answer.
 
 mod layout;
+mod pictures;
 
 use independent::{caption, read, Page, Refusal};
 use std::env;
@@ -20,6 +21,7 @@ enum Wanted {
     Page,
     Caption,
     Layout,
+    Pictures(String),
     Time(usize),
 }
 
@@ -27,7 +29,7 @@ fn main() -> ExitCode {
     let (any, wanted) = match options() {
         Some(options) => options,
         None => {
-            eprintln!("usage: page [--any] [--caption | --layout | --time N] < STREAM");
+            eprintln!("usage: page [--any] [--caption | --layout | --pictures NAME | --time N] < STREAM");
             return ExitCode::from(2);
         }
     };
@@ -48,6 +50,7 @@ fn options() -> Option<(bool, Wanted)> {
             "--any" => any = true,
             "--caption" => wanted = Wanted::Caption,
             "--layout" => wanted = Wanted::Layout,
+            "--pictures" => wanted = Wanted::Pictures(words.next()?),
             "--time" => wanted = Wanted::Time(words.next()?.parse().ok()?),
             _ => return None,
         }
@@ -65,6 +68,13 @@ fn run(any: bool, wanted: Wanted) -> io::Result<()> {
         Wanted::Page => print_answer(&mut out, read(&stream, room), stream.len())?,
         Wanted::Caption => out.write_all(caption(&stream))?,
         Wanted::Layout => layout::print(&mut out, &stream)?,
+        Wanted::Pictures(name) => match read(&stream, room) {
+            Ok(page) => {
+                writeln!(out, "answer 0 at {}", stream.len())?;
+                pictures::write(&name, &page)?;
+            }
+            Err(refusal) => print_refusal(&mut out, refusal)?,
+        },
         Wanted::Time(readings) => print_time(&mut out, &stream, room, readings)?,
     }
     out.flush()

@@ -1,0 +1,53 @@
+-- What the exported functions leave, by the reader's and the header's definitions.
+use mathlib.Core.Bool.{false, cond}
+use mathlib.Core.List.{List, [], _∷_, _++_}
+use mathlib.Core.Path.{_≡_}
+use Prim.Native.Nat.{ℕ, _+_, _≤_}
+use lib.IntN.{ℤ}
+use lib.ListN.{length, getD, take, drop}
+use Rattle.rows.specs.declared.Verdict.{Verdict}
+use Rattle.rows.specs.declared.Verdict.the-variants.{Fine, Refused}
+use Rattle.header.specs.Header.{readingOf, captionPart}
+use Rattle.header.specs.declared.captions.Caption.{Caption}
+use Rattle.header.specs.declared.header.Header.{Header}
+use Rattle.reader.specs.Settings.{N}
+use Rattle.reader.specs.Page.{pageOf, Reads}
+use Rattle.reader.specs.declared.page.Page.{Page}
+
+-- ---- the page record, cell by cell
+
+-- of component i, 0 where there is none
+abbrev pub cellsFor : Page → ℕ → List ℕ
+cellsFor p i = getD (p .width) i 0 ∷ getD (p .height) i 0 ∷ getD (p .precision) i 0 ∷ getD (p .distance) i 0 ∷ []
+
+abbrev pub cellsOf : Page → List ℕ
+cellsOf p =
+    (p .answer ∷ p .place ∷ p .components ∷ cond (p .caption) 1 0 ∷ [])
+    ++ (cellsFor p 0 ++ (cellsFor p 1 ++ (cellsFor p 2 ++ cellsFor p 3)))
+
+-- a reading of the stream s into the samples a, by the work cells w: the record as cells, and both buffers behind it
+pub record Handed (s a : List ℕ) (w : List ℤ) (cells a′ : List ℕ) (w′ : List ℤ) : Type 0 where
+  pub cells-are : cells ≡ cellsOf (pageOf s (length a) (length w))
+  pub reads : Reads s a w (pageOf s (length a) (length w)) a′ w′
+
+-- ---- N, how many samples the page has: 0 where the header is refused
+
+abbrev pub neededBy : Verdict → Header → ℕ
+neededBy Fine h = N h
+neededBy (Refused c) h = 0
+
+unfoldable pub needed : List ℕ → ℕ
+needed s = neededBy (readingOf s .verdict) (readingOf s .header)
+
+-- ---- the caption, a part of the stream
+
+abbrev pub captionIn : List ℕ → Caption
+captionIn s = readingOf s .header .caption
+
+pub record CaptionAt (s part : List ℕ) : Type 0 where
+  pub place-and-size : part ≡ captionIn s .at ∷ captionIn s .size ∷ []
+  -- the part lies in the stream, and is the caption
+  pub inside : captionIn s .at + captionIn s .size ≤ length s
+  pub bytes : take (captionIn s .size) (drop (captionIn s .at) s) ≡ captionPart s
+  -- '0, 0 where there is none'
+  pub none : captionIn s .there ≡ false → part ≡ 0 ∷ 0 ∷ []

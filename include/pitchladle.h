@@ -1,0 +1,71 @@
+/* Pitchladle: reads pages that are stored as JPEG XS (ISO/IEC 21122-1:2024), and says how far a sample may be from the scan.
+ *
+ * What a function promises here is proved, for every stream and whatever the lent buffers hold: crates/pitchladle and crates/reader have the statements. It
+ * keeps no state, asks for no memory, and writes to nothing but the buffers that it is lent.
+ *
+ * What the caller must see to, and nothing else does:
+ *   - a pointer is valid for as many cells as the count behind it says, and aligned for its type; it is not null, even where the count is 0;
+ *   - the buffers of one call do not overlap, and no other thread writes to them during the call;
+ *   - the program is one for x86-64, linked with libpitchladle.a. */
+#ifndef PITCHLADLE_H
+#define PITCHLADLE_H
+
+#include <stddef.h>
+#include <stdint.h>
+
+#ifdef __cplusplus
+extern "C" {
+#endif
+
+/* The answer, and with it its place: the offset in the stream of the field that decided.
+ *   0  the page is read; the place is the stream's length
+ *   1  the stream ends before a header field or marker segment does
+ *   2  a marker is unknown, repeated, missing or misplaced, or bytes follow the end marker
+ *   3  a field has a reserved or forbidden value, or contradicts an earlier field
+ *   4  the standard allows it, and this reader does not have it
+ *   5  a lent buffer is too short
+ *   6  a length does not fit: the stream's, a precinct's, a packet's or a subpacket's
+ *   7  a bitplane count is not from 0 to 31
+ *   8  a prediction or a raw flag is chosen where it may not be */
+
+/* One component of a page: its size in samples, the bits of a sample (8 to 16), and the distance. No sample of the component is further than its distance
+ * from what the encoder's own coefficients would have given; a distance of 0 says that none is off. */
+struct pitchladle_component {
+    uint64_t width, height, precision, distance;
+};
+
+/* The page record. Of a page that is refused all is 0 but answer and place. */
+struct pitchladle_page {
+    uint64_t answer, place;
+    uint64_t components;                      /* 1 to 4 */
+    uint64_t caption;                         /* 1 where the stream has a bench caption, if only an empty one; else 0 */
+    struct pitchladle_component component[4]; /* 0 from `components` on */
+};
+
+/* A part of the stream. */
+struct pitchladle_part {
+    uint64_t place, size;
+};
+
+/* Reads a page. With N as pitchladle_needs says, it takes N sample cells and 2 N work cells; more may be lent, and with fewer the answer is 5.
+ *   The record is written whole.
+ *   Samples stand component by component, row by row, from the first cell on. Where the page is refused no sample cell is changed, and where it is read none
+ *   behind the N is.
+ *   The work cells may hold anything. Of a page whose header is refused, or with a buffer too short, none is changed; else the first 2 N are 0 afterwards, so
+ *   that nothing of one page is left for the next, and the others are as they were. */
+void pitchladle_read(const uint8_t *stream, size_t stream_bytes, uint16_t *samples, size_t sample_cells, int64_t *work, size_t work_cells,
+                     struct pitchladle_page *page);
+
+/* How many samples the page has: the sum of width times height over its components, at most 2^30. 0 where the stream is refused before its first slice; any
+ * other page may still be refused later. */
+uint64_t pitchladle_needs(const uint8_t *stream, size_t stream_bytes);
+
+/* Where the bench caption stands, without its header. Place and size are both 0 where there is none, or the stream is refused before its first slice; the
+ * part always lies in the stream. */
+void pitchladle_caption(const uint8_t *stream, size_t stream_bytes, struct pitchladle_part *part);
+
+#ifdef __cplusplus
+}
+#endif
+
+#endif

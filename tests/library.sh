@@ -1,0 +1,33 @@
+#!/bin/sh
+# Reads generated pages, some of several megapixels, with the C example over the static library, and compares answers, distances and samples with the
+# independent decoder's. Usage: library.sh FOLDER, where tests/build.sh has put its programs. Stops at the first difference.
+set -eu
+bin=$(realpath "${1:?"usage: library.sh FOLDER"}")
+cd "$(dirname "$0")/.."
+. examples/x86.sh
+library
+out=$(mktemp -d)
+trap 'rm -rf "$out"' EXIT
+$compile examples/read.c "$archive" -o "$out/read"
+
+# compare STREAM...: the words are for tests' `stream`
+compare() {
+    mkdir "$out/ours" "$out/theirs"
+    "$bin/stream" "$@" >"$out/page.jxs"
+    $run "$out/read" "$out/page.jxs" "$out/ours/page" | head -n 1 >"$out/ours/answer"
+    "$bin/page" --any --pictures "$out/theirs/page" <"$out/page.jxs" >"$out/theirs/answer"
+    diff -r -q "$out/ours" "$out/theirs" || { echo "stream $*: $(cat "$out/ours/answer"), independent decoder $(cat "$out/theirs/answer")"; exit 1; }
+    echo "stream $*: $(cat "$out/ours/answer"), same"
+    rm -r "$out/ours" "$out/theirs"
+}
+
+compare measured lossless 2000 2000
+compare measured lossy 1999 1501
+compare measured subsampled 2001 1999
+compare measured sheet 4000 3000
+for seed in 1 2 3 4 5 6; do
+    compare syntax $seed large
+    compare picture $seed large
+    compare damaged $seed large
+done
+compare foreign 1

@@ -1,0 +1,14 @@
+#!/bin/sh
+# Holds the proved page program, target/bin/page, against the independent decoder on made streams. Stops at the first
+# difference. Usage: program.sh FOLDER [WORD...], where tests/build.sh has put its programs; the words are for `compare`.
+set -eu
+bin=$(realpath "${1:?"usage: program.sh FOLDER [WORD...]"}")
+shift
+cd "$(dirname "$0")/.."
+program=$(realpath target/bin/page)
+# Programs are compiled for x86-64: elsewhere they run as `rt` runs them, under the kit's emulator.
+if [ "$(uname -m)" != x86_64 ]; then
+    kit=$(dirname "$(dirname "$(realpath "$(command -v rt)")")")/on/$(uname -m)/toolchain
+    program="$kit/bin/qemu-x86_64 $kit/lib/ld-linux-x86-64.so.2 --library-path $kit/lib $program"
+fi
+"$bin/compare" "$bin/page" "$program" "$@"
