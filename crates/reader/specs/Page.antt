@@ -69,6 +69,10 @@ abbrev pub pageBy : Verdict → Header → List ℕ → Page
 pageBy Fine h distance = pageRead h distance
 pageBy (Refused c) h distance = pageRefused (Refused c)
 
+-- the record of a reading of s
+abbrev pub pageOf : List ℕ → ℕ → ℕ → Page
+pageOf s a w = pageBy (verdict s a w) (headerOf s) (distancesFrom (headerOf s) (tops s (headerOf s)))
+
 -- ---- the buffers
 
 -- 'on success cells past N keep their values; on refusal all do'
