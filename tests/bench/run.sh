@@ -1,9 +1,11 @@
 #!/bin/sh
 # Times the library beside the independent decoder, both built for x86-64, on lossless, lossy, 4:2:0 and large pages of 1, 4 and 16 megapixels, and prints a table.
-# Usage: run.sh FOLDER [READINGS], where tests/build.sh has put its programs. On Arm both run in one emulator: only the ratio says something there.
+# Usage: run.sh FOLDER [READINGS [SIDE...]], where tests/build.sh has put its programs. On Arm both run in one emulator: only the ratio says something there.
 set -eu
 bin=$(realpath "${1:?"usage: run.sh FOLDER [READINGS]"}")
 readings=${2:-5}
+[ $# -lt 2 ] || shift 2
+sides=${*:-1000 2000 4000}
 cd "$(dirname "$0")/../.."
 . examples/x86.sh
 library
@@ -22,10 +24,12 @@ rust --crate-type rlib --crate-name independent tests/independent/lib.rs --out-d
 rust --crate-type staticlib --crate-name rival --extern independent tests/bench/rival.rs -o "$out/librival.a"
 $compile tests/bench/main.c "$archive" "$out/librival.a" $([ -n "$run" ] || echo -lpthread -ldl) -Wl,--no-warnings -o "$out/bench"
 
-for side in 1000 2000 4000; do
+for side in $sides; do
     for name in lossless lossy subsampled sheet; do
         "$bin/stream" measured $name $side $side >"$out/$name-$side"
     done
 done
 cd "$out"
+# The emulator takes the x86 instruction that fills memory byte by byte, which no processor does. So both sides fill memory as on processors without it.
+[ -z "$run" ] || run="$run -cpu max,-erms"
 $run ./bench "$readings" lossless-* lossy-* subsampled-* sheet-*
