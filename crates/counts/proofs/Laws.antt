@@ -14,13 +14,13 @@ use lib.Seq.{getD-set-same, getD-set-other}
 use Rattle.loops.specs.Run.{Turn, go, stop, run}
 use Rattle.loops.proofs.Laws.{Kept, run-carries}
 use Rattle.whole.specs.Cells.{cell}
-use Rattle.counts.specs.Lines.{packed, heldM, heldT, groups, countCell, nibbles, State, Left, stored, unpack, turn, end, lineCounts, Ready}
+use Rattle.counts.specs.Lines.{packed, heldM, heldT, groups, countCell, nibbles, State, Left, stored, unpack, turn, end, lineCounts}
 use Rattle.counts.specs.declared.group.Coding.{Coding}
 use Rattle.counts.specs.declared.group.Group.{Group}
 use Rattle.counts.specs.declared.group.Group.the-variants.{Count, Cut as CutCode, High as HighCode}
 use Rattle.counts.specs.declared.Place.{Place}
 use Rattle.counts.specs.declared.Line.the-variants.{Done, Cut, High}
-use Rattle.counts.proofs.Lines.{Sound, unpack-sound, nibbles-few, cell-inside}
+use Rattle.counts.proofs.Lines.{Sound, unpack-sound, nibbles-few}
 
 -- ---- a count cell: M and T come back from what it holds
 pub held-m : (m t : ℕ) → m ≤ 31 → heldM (packed m t) ≡ m
@@ -133,14 +133,14 @@ module _ (s sig : List ℕ) (c : Coding) (p : Place) (i z : ℕ) (cells : List �
     pub done-need : need ≤ 32 * groups p
     done-need = done-carries (λ g x. x .1 ≤ 32 * g) (λ g x m next h k f. omega (arith, k, nibbles-few c m (f .0))) (omega arith)
 
-    module _ {bytes : ℕ} (ready : Ready c p bytes z (length cells)) where
+    module _ (inside : (g : ℕ) → g < groups p → countCell p g < length cells) where
       -- every group's cell holds a count with T
       pub done-holds : (g : ℕ) → g < groups p → Holds (c .t) (cell l (countCell p g))
       done-holds =
           done-carries (λ g x. (length (x .2) ≡ length cells) × ((k : ℕ) → k < g → Holds (c .t) (cell (x .2) (countCell p k))))
           (λ g x m next h q f. (
             length-set (x .2) (countCell p g) (packed m (c .t)) ∙ q .0,
-            λ k d. holds-set (x .2) (countCell p g) (countCell p k) m (c .t) (omega (arith, q .0, cell-inside g ready h)) (f .0)
+            λ k d. holds-set (x .2) (countCell p g) (countCell p k) m (c .t) (omega (arith, q .0, inside g h)) (f .0)
                 (λ other. q .1 k (before k g d (λ same. other (ap (countCell p) same)))),
           ))
           (refl, λ k d. absurd (omega arith)) .1
@@ -155,6 +155,6 @@ module _ (s sig : List ℕ) (c : Coding) (p : Place) (i z : ℕ) (cells : List �
             total-more _ _ g (x .1) (nibbles c m) (q .1)
                 (λ k d. ap by (sym (getD-set-other (x .2) (countCell p g) (countCell p k) (packed m (c .t)) (pos 0) (apart p k g wide d))))
                 (ap (nibbles c) (sym (held-m m (c .t) (f .0)))
-                ∙ ap by (sym (getD-set-same (x .2) (countCell p g) (packed m (c .t)) (pos 0) (omega (arith, q .0, cell-inside g ready h))))),
+                ∙ ap by (sym (getD-set-same (x .2) (countCell p g) (packed m (c .t)) (pos 0) (omega (arith, q .0, inside g h))))),
           ))
           (refl, total-none _) .1

@@ -1,5 +1,5 @@
--- Document 01, 'Checked figures': the starred cases, each as what the definitions give and what the document says. The rest of that table is
--- run by programs.
+-- Document 01, 'Checked figures': the starred cases, each as what the definitions give and what the document says; those of the distance rule also
+-- through the whole rule. The rest of that table is run by programs.
 use mathlib.Core.Bool.{true, false}
 use mathlib.Core.List.{List, [], _∷_}
 use Prim.Native.Nat.{ℕ, zero, suc, _+_}
@@ -12,6 +12,8 @@ use Rattle.wavelet.specs.Filter.{filter, samples}
 use Rattle.wavelet.specs.Transform.{woven}
 use Rattle.wavelet.specs.Distance.{joined}
 use Rattle.output.specs.Linear.{scaledNumber}
+use Rattle.layout.specs.declared.Shape.{Shape}
+use Rattle.distances.specs.Rule.{componentNumber, distanceOf}
 use Rattle.bits.specs.Packet.{widthsFor, headerBits}
 
 pub record Figure : Type 0 where
@@ -47,6 +49,17 @@ line-of f i (suc n) = f i ∷ line-of f (i + 1) n
 abbrev pub samples-figure : List ℤ → List ℤ → List ℤ → Figure
 samples-figure low high says = record { gives = line-of (filter samples (length low + length high) (woven (at low) (at high))) 0 (length low + length high); says = says }
 
+-- the distance rule of a picture with one component and one level, across: two samples, whose bands LL and HL have T 0 and T 3
+abbrev pub two-samples : Shape
+two-samples = record { wf = 2; hf = 1; cw = 0; hsl = 1; nc = 1; nlx = 1; nly = 0; sx = 1 ∷ 0 ∷ 0 ∷ 0 ∷ []; sy = 1 ∷ 0 ∷ 0 ∷ 0 ∷ [] }
+
+abbrev pub component-figure : ℕ → Figure
+component-figure says = number (componentNumber two-samples 0 (0 ∷ 3 ∷ []) 0) says
+
+-- its distance at B 8, with k = Bw − 8
+abbrev pub distance-figure : ℕ → ℕ → Figure
+distance-figure k says = number (distanceOf two-samples 0 0 (8 + k) (λ _. 8) (0 ∷ 3 ∷ []) 0) says
+
 unfoldable pub table : List Figure
 table =
     deadzone-figure 0 5 (minus 19) (minus 19)
@@ -64,8 +77,11 @@ table =
     ∷ number (bandNumber 3 0) 7
     ∷ number (bandNumber 3 8) 1792
     ∷ number (joined 0 7) 11
+    ∷ component-figure 11
     ∷ number (scaledNumber 0 11) 11
     ∷ number (scaledNumber 12 11) 1
+    ∷ distance-figure 0 11
+    ∷ distance-figure 12 1
     ∷ number (headerBits (widthsFor 10917 3 0)) 40
     ∷ number (headerBits (widthsFor 8188 4 0)) 56
     ∷ []

@@ -17,18 +17,18 @@ use Rattle.layout.specs.Built.{Built}
 use Rattle.layout.specs.Sizes.{component-of}
 use Rattle.layout.proofs.Shapes.{component-small}
 use Rattle.layout.proofs.Places.{Stands, places-differ, place-found}
-use Rattle.layout.proofs.Existing.{band-has, has-band, type-known}
+use Rattle.layout.proofs.Existing.{BandOf, band-has, has-band, type-known}
 
 -- ---- rows of W cells
 
 module _ (W r c : ℕ) (h : c < W) where
-  row-of-cell : (r * W + c) / W ≡ r
+  pub row-of-cell : (r * W + c) / W ≡ r
   row-of-cell = mul-add-div-right (omega arith) r c ∙ ap (λ (n : ℕ). r + n) (div-eq-of-lt h) ∙ omega arith
 
-  column-of-cell : (r * W + c) % W ≡ c
+  pub column-of-cell : (r * W + c) % W ≡ c
   column-of-cell = mul-add-mod-self-right r W c ∙ mod-eq-of-lt h
 
-  cell-below : (H : ℕ) → r < H → r * W + c < W * H
+  pub cell-below : (H : ℕ) → r < H → r * W + c < W * H
   cell-below H k = omega (arith, mul-le-mul-right W k, suc-mul r W, mul-comm H W)
 
 -- a coefficient stands inside its component
@@ -88,6 +88,25 @@ module _ (s : Shape) (built : Built s) (i : ℕ) (h : i < s .nc) where
       let same = places-differ (stands c) q in
       (type-known s built β β′ (c .type) (d .type) (same .kinds) (same .depth-across), same .columns, same .rows)
 
+  -- a coefficient of a band that the component has, by its letters and depths, is one of the layout, and stands where the transform takes it
+  module _ {k : Kind} {across down x y : ℕ} (c : Coefficient (Wc s i) (Hc s i) (s .nlx) (N′y s i) k across down x y) where
+    abbrev own-band : BandOf s built i h k across down
+    own-band = has-band s built i h k across down (c .has)
+
+    pub has-exists : Exists s i (own-band .β) x y
+    unfolding Wb Hb
+    has-exists =
+        record {
+          type = own-band .below;
+          there = own-band .there;
+          column = subst (λ (p : Kind × ℕ). x < columns (Wc s i) (p .0) (p .1)) (λ j. (sym (own-band .letters) j, sym (own-band .across) j)) (c .column);
+          row = subst (λ (p : Kind × ℕ). y < rows (Hc s i) (p .0) (p .1)) (λ j. (sym (own-band .letters) j, sym (own-band .down) j)) (c .row);
+        }
+
+    pub has-cell : inner s (own-band .β) i x y ≡ place (τy k) down y * Wc s i + place (τx k) across x
+    unfolding inner
+    has-cell = λ j. place (τy (own-band .letters j)) (own-band .down j) y * Wc s i + place (τx (own-band .letters j)) (own-band .across j) x
+
   -- every cell of the component is some coefficient's
   pub record Holds (n : ℕ) : Type 0 where
     pub β : ℕ
@@ -97,27 +116,17 @@ module _ (s : Shape) (built : Built s) (i : ℕ) (h : i < s .nc) where
     pub cell : inner s β i x y ≡ n
 
   pub every-cell : (n : ℕ) → n < area s i → Holds n
-  unfolding area inner Wb Hb
+  unfolding area
   every-cell n l =
       let wide = component-small s i (component-of s i) built h refl .wide in
       let f = place-found (Wc s i) (Hc s i) (s .nlx) (N′y s i) (n % Wc s i) (n / Wc s i) (omega (arith, built .no-more)) (mod-lt n wide)
       (div-lt-iff-lt-mul wide .1 (omega (arith, mul-comm (Wc s i) (Hc s i)))) in
-      let b = has-band s built i h (f .kind) (f .dx) (f .dy) (f .stands .coefficient .has) in
       record {
-        β = b .β;
+        β = has-band s built i h (f .kind) (f .dx) (f .dy) (f .stands .coefficient .has) .β;
         x = f .x;
         y = f .y;
-        exists =
-            record {
-              type = b .below;
-              there = b .there;
-              column = subst (λ (p : Kind × ℕ). f .x < columns (Wc s i) (p .0) (p .1)) (λ j. (sym (b .letters) j, sym (b .across) j)) (f .stands .coefficient .column);
-              row = subst (λ (p : Kind × ℕ). f .y < rows (Hc s i) (p .0) (p .1)) (λ j. (sym (b .letters) j, sym (b .down) j)) (f .stands .coefficient .row);
-            };
-        cell =
-            (λ j. place (τy (b .letters j)) (b .down j) (f .y) * Wc s i + place (τx (b .letters j)) (b .across j) (f .x))
-            ∙ (λ j. f .stands .row j * Wc s i + f .stands .column j)
-            ∙ div-add-mod' n (Wc s i);
+        exists = has-exists (f .stands .coefficient);
+        cell = has-cell (f .stands .coefficient) ∙ (λ j. f .stands .row j * Wc s i + f .stands .column j) ∙ div-add-mod' n (Wc s i);
       }
 
 -- ---- the whole buffer

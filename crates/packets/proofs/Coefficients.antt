@@ -27,7 +27,8 @@ use Rattle.packets.specs.Ready.{Slotted}
 use Rattle.packets.specs.Passes.{line, placeOf, valuesOf, valued, valueTurn, packetValues}
 use Rattle.packets.specs.Packets.{headChecks, countChecks, dataChecks, valuesBy, countsBy, packet}
 use Rattle.packets.specs.Steps.{countsOf}
-use Rattle.packets.proofs.Lines.{lies, lines-apart, counts-apart, stride-some}
+use Rattle.packets.proofs.Addresses.{same-line, count-apart}
+use Rattle.packets.proofs.Lines.{lies, there-in, stride-some}
 use Rattle.packets.proofs.Laws.{clash, counts-keep}
 
 -- z is the coefficient of an index that M − t planes carry, M being at most 31
@@ -60,7 +61,7 @@ module _ (c : Setting) (p : Precinct) (slot : ℕ) (h : Slotted c p slot) (j x :
   still g l e dat sgn from cells =
       ap countIn
       (values-other dat sgn (valuesOf c) (valued c p (line c p slot g)) from cells refl (countPlace (valued c p (line c p slot j)) (x / 4))
-      (λ y n z. counts-apart c p slot h j g (4 * (x / 4)) y k l there e (omega arith) n z))
+      (λ y n z. count-apart (c .shape) (h .settled .shape) (there-in h k there) (there-in h l e) (4 * (x / 4)) y (omega arith) n z))
 
   -- and no other line of the packet over the coefficient
   abbrev Carries : List ℤ → ℕ → List ℤ → Type 0
@@ -86,7 +87,7 @@ module _ (c : Setting) (p : Precinct) (slot : ℕ) (h : Slotted c p slot) (j x :
           by : Dec (j < g) → j < g + 1 → own cells (lineValues dat sgn (valuesOf c) (valued c p (line c p slot g)) (y .0) (y .1) .1)
           by (yes before) u =
               rw (values-other dat sgn (valuesOf c) (valued c p (line c p slot g)) (y .0) (y .1) refl (line c p slot j .cell + x * line c p slot j .stride)
-              (λ x′ f′ z. omega (arith, lines-apart c p slot h j g x x′ k l there e f f′ z)))
+              (λ x′ f′ z. omega (arith, same-line (c .shape) (h .settled .shape) (there-in h k there) (there-in h l e) x x′ f f′ z .candidates)))
               (q .2 before)
           by (no after) u =
               let same : g ≡ j = omega arith in
@@ -111,7 +112,7 @@ module _ (c : Setting) (p : Precinct) (slot : ℕ) (h : Slotted c p slot) (j x :
         let y = countsOf s c p slot at cells in
         let kept : length (y .1) ≡ length cells =
         counts-keep c p slot (λ l. length l ≡ length cells) (λ g a b cnt sig o t i z l q. counts-length cnt sig o (placeOf (line c p slot g)) i z l ∙ q)
-        (λ g a b dat sgn from l q. values-length dat sgn (valuesOf c) (valued c p (line c p slot g)) from l refl ∙ q) s _ _ _ cells refl in
+        s _ _ _ cells refl in
         by-values (first (countChecks s c p slot at (y .0) ++ dataChecks s c p slot at (y .0))) (y .1) (omega (arith, kept)) e
     by-counts (Refused r) cells room e = clash e
 

@@ -54,16 +54,23 @@ module _ (s : List ℕ) (c : Setting) (p : Precinct) (slot at : ℕ) where
   values-fine Fine cells e = refl
   values-fine (Refused k) cells e = clash e
 
+  -- counts that are cut, or too high, refuse the packet
+  pub cut-refused : (cells : List ℤ) → afterCounts s c p slot at (Cut, cells) .0 ≡ Fine → ⊥
+  cut-refused cells e =
+      let t = held (countChecks s c p slot at Cut) (values-fine _ cells e) in
+      omega (arith, t .0 .least)
+
+  pub high-refused : (cells : List ℤ) → afterCounts s c p slot at (High, cells) .0 ≡ Fine → ⊥
+  high-refused cells e =
+      let t = held (countChecks s c p slot at High) (values-fine _ cells e) in
+      omega (arith, t .0 .most)
+
   after-fine : (x : Counted × List ℤ) → datAt s c p slot at ≤ p .end → afterCounts s c p slot at x .0 ≡ Fine → past s c p slot at ≤ p .end
   after-fine (Done next need, cells) h e =
       let t = held (dataChecks s c p slot at (Done next need)) (values-fine _ cells e) in
       omega (arith, t .0 .least, t .1 .1 .0 .least)
-  after-fine (Cut, cells) h e =
-      let t = held (countChecks s c p slot at Cut) (values-fine _ cells e) in
-      absurd (omega (arith, t .0 .least))
-  after-fine (High, cells) h e =
-      let t = held (countChecks s c p slot at High) (values-fine _ cells e) in
-      absurd (omega (arith, t .0 .most))
+  after-fine (Cut, cells) h e = absurd (cut-refused cells e)
+  after-fine (High, cells) h e = absurd (high-refused cells e)
 
   counts-fine : (v : Verdict) (cells : List ℤ) → (v ≡ Fine → datAt s c p slot at ≤ p .end) → countsBy s c p slot at v cells .0 ≡ Fine → past s c p slot at ≤ p .end
   counts-fine Fine cells h e = after-fine (countsOf s c p slot at cells) (h refl) e
@@ -76,19 +83,25 @@ module _ (s : List ℕ) (c : Setting) (p : Precinct) (slot at : ℕ) where
 
 -- ---- what each line keeps, the packet keeps
 
-module _ (c : Setting) (p : Precinct) (slot : ℕ) (P : List ℤ → Type 0)
-    (counts : (j : ℕ) → j < candidates (c .shape) slot → line c p slot j .present ≡ true
-    → (cnt sig : List ℕ) (k : Coding) → k .t ≡ T c p (line c p slot j .band) → (i z : ℕ) (cells : List ℤ) → P cells → P (lineCounts cnt sig k (placeOf (line c p slot j)) i z cells .1))
-    (values : (j : ℕ) → j < candidates (c .shape) slot → line c p slot j .present ≡ true
-    → (dat sgn : List ℕ) (from : Next) (cells : List ℤ) → P cells → P (lineValues dat sgn (valuesOf c) (valued c p (line c p slot j)) from cells .1)) where
+module _ (c : Setting) (p : Precinct) (slot : ℕ) (P : List ℤ → Type 0) where
+  abbrev CountsKeep : Type 0
+  CountsKeep =
+      (j : ℕ) → j < candidates (c .shape) slot → line c p slot j .present ≡ true
+      → (cnt sig : List ℕ) (k : Coding) → k .t ≡ T c p (line c p slot j .band) → (i z : ℕ) (cells : List ℤ) → P cells → P (lineCounts cnt sig k (placeOf (line c p slot j)) i z cells .1)
+
+  abbrev ValuesKeep : Type 0
+  ValuesKeep =
+      (j : ℕ) → j < candidates (c .shape) slot → line c p slot j .present ≡ true
+      → (dat sgn : List ℕ) (from : Next) (cells : List ℤ) → P cells → P (lineValues dat sgn (valuesOf c) (valued c p (line c p slot j)) from cells .1)
+
   counted-keeps : (need : ℕ) (x : Counted × List ℤ) → P (x .1) → Kept (λ (x : Counting). P (x .2)) (λ (x : Counted × List ℤ). P (x .1)) (counted need x)
   counted-keeps need (Done next more, cells) h = h
   counted-keeps need (Cut, cells) h = h
   counted-keeps need (High, cells) h = h
 
-  pub counts-keep : (s cnt sig : List ℕ) (raw : Bool) (cells : List ℤ) → P cells → P (packetCounts s c p slot cnt sig raw cells .1)
+  pub counts-keep : CountsKeep → (s cnt sig : List ℕ) (raw : Bool) (cells : List ℤ) → P cells → P (packetCounts s c p slot cnt sig raw cells .1)
   unfolding packetCounts countTurn
-  counts-keep s cnt sig raw cells h =
+  counts-keep counts s cnt sig raw cells h =
       run-keeps (λ (x : Counting). P (x .2)) (λ (x : Counted × List ℤ). P (x .1)) (countTurn s c p slot cnt sig raw) _ (candidates (c .shape) slot)
       (λ x k. k) (λ j x l k. pick j x l k (line c p slot j .present) refl) (candidates (c .shape) slot) 0 (0, 0, cells) (omega arith) h
     where
@@ -100,9 +113,9 @@ module _ (c : Setting) (p : Precinct) (slot : ℕ) (P : List ℤ → Type 0)
           counted-keeps (x .1) (lineCounts cnt sig code (placeOf (line c p slot j)) (x .0) (marks s c p slot raw j) (x .2)) (counts j l e cnt sig code refl (x .0) (marks s c p slot raw j) (x .2) k)
       pick j x l k false e = k
 
-  values-keep : (dat sgn : List ℕ) (cells : List ℤ) → P cells → P (packetValues c p slot dat sgn cells .1)
+  pub values-keep : ValuesKeep → (dat sgn : List ℕ) (cells : List ℤ) → P cells → P (packetValues c p slot dat sgn cells .1)
   unfolding packetValues valueTurn
-  values-keep dat sgn cells h =
+  values-keep values dat sgn cells h =
       run-keeps (λ (x : Next × List ℤ). P (x .1)) (λ (x : Next × List ℤ). P (x .1)) (valueTurn c p slot dat sgn) _ (candidates (c .shape) slot)
       (λ x k. k) (λ j x l k. pick j x l k (line c p slot j .present) refl) (candidates (c .shape) slot) 0 (record { at = 0; sign = 0 }, cells) (omega arith) h
     where
@@ -111,15 +124,15 @@ module _ (c : Setting) (p : Precinct) (slot : ℕ) (P : List ℤ → Type 0)
       pick j x l k true e = values j l e dat sgn (x .0) (x .1) k
       pick j x l k false e = k
 
-  module _ (s : List ℕ) (at : ℕ) where
+  module _ (counts : CountsKeep) (values : ValuesKeep) (s : List ℕ) (at : ℕ) where
     by-values : (v : Verdict) (cells : List ℤ) → P cells → P (valuesBy s c p slot at v cells .1)
-    by-values Fine cells h = values-keep _ _ cells h
+    by-values Fine cells h = values-keep values _ _ cells h
     by-values (Refused k) cells h = h
 
     by-counts : (v : Verdict) (cells : List ℤ) → P cells → P (countsBy s c p slot at v cells .1)
     by-counts Fine cells h =
         let x = countsOf s c p slot at cells in
-        by-values (first (countChecks s c p slot at (x .0) ++ dataChecks s c p slot at (x .0))) (x .1) (counts-keep s _ _ _ cells h)
+        by-values (first (countChecks s c p slot at (x .0) ++ dataChecks s c p slot at (x .0))) (x .1) (counts-keep counts s _ _ _ cells h)
     by-counts (Refused k) cells h = h
 
     pub packet-keeps : (raws : List ℕ) (cells : List ℤ) → P cells → P (packet s c p slot at raws cells .1)

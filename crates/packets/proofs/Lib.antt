@@ -1,7 +1,9 @@
 -- Laws of the packets, and the lemmas of the code's proofs.
+pub mod Addresses
 pub mod Lines
 pub mod LinePasses
 pub mod Stretches
 pub mod Laws
 pub mod Coefficients
+pub mod Truncations
 pub mod Examples

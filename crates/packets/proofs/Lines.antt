@@ -1,8 +1,8 @@
 -- The lines of a slot: where they lie. Assumes nothing.
-use mathlib.Core.Path.{_≡_, refl, sym, ap, _∙_}
+use mathlib.Core.Path.{_≡_, refl, _∙_}
 use mathlib.Core.Bool.{Bool, true, false, _&&_}
 use Prim.Native.Nat.{ℕ, suc, _+_, _-_, _*_, _/_, _%_, _^_, _≤_, _<_}
-use native.Mathlib.Nat.{mod-lt, mod-eq-of-lt, div-eq-of-lt, mul-add-div, mul-add-mod-self-left, mul-le-mul, mul-le-mul-left, mul-suc, div-add-mod'}
+use native.Mathlib.Nat.{mod-lt, mod-eq-of-lt, div-eq-of-lt, mul-add-div, mul-add-mod-self-left, mul-le-mul-left, mul-suc}
 use native.Mathlib.Decide.{decLt}
 use native.Mathlib.Omega.{arith}
 use lib.Dec.{eqb, ltb}
@@ -13,31 +13,40 @@ use Rattle.layout.specs.Bands.{sy, Wc, NL, Nβ, dx, dy, depth, N′y, exists, b
 use Rattle.layout.specs.Built.{Built}
 use Rattle.layout.specs.Precincts.{Npx, Wpb, L0, L1, first-x, first-y}
 use Rattle.layout.specs.Packets.{included}
-use Rattle.layout.specs.Cells.{area, start, inner, cell}
+use Rattle.layout.specs.Cells.{area, inner}
 use Rattle.layout.specs.Slots.{slot-type, slot-line, candidates, line as lineOf, line-at}
 use Rattle.layout.proofs.Sums.{area-most}
 use Rattle.layout.proofs.Slots.{slot-fits}
-use Rattle.layout.proofs.Cells.{Exists, cell-inside, cells-differ, starts-up, line-above}
-use Rattle.layout.proofs.Present.{line-exists, line-inside}
+use Rattle.layout.proofs.Cells.{starts-up, line-above}
+use Rattle.layout.proofs.Present.{line-inside}
 use Rattle.packets.specs.declared.Setting.{Setting}
 use Rattle.packets.specs.declared.Precinct.{Precinct}
 use Rattle.packets.specs.Passes.{line}
 use Rattle.packets.specs.Ready.{Slotted}
 use Rattle.packets.specs.Steps.{Lies}
+use Rattle.packets.proofs.Addresses.{There}
 
 first-true : (a b c : Bool) → a && b && c ≡ true → a ≡ true
 first-true true b c e = refl
 first-true false b c e = let z : _≡_ {A = ℕ} 0 1 = cc in absurd (omega arith)
 
-module _ (s : Shape) (built : Built s) (row column β i l : ℕ) (type : β < Nβ s) (h : i < s .nc) where
-  own-band : band s β i < NL s
-  own-band = omega (arith, mul-suc (s .nc) β, mul-le-mul-left {m = suc β} {n = Nβ s} (s .nc) type)
+-- ---- the index of a band
 
+module _ (s : Shape) (β i : ℕ) (h : i < s .nc) where
+  pub band-below : β < Nβ s → band s β i < NL s
+  band-below type = omega (arith, mul-suc (s .nc) β, mul-le-mul-left {m = suc β} {n = Nβ s} (s .nc) type)
+
+  -- it tells the filter type and the component
+  pub band-parts : (band s β i / s .nc ≡ β) × (band s β i % s .nc ≡ i)
+  band-parts = (mul-add-div (omega arith) β i ∙ omega (arith, div-eq-of-lt h), mul-add-mod-self-left (s .nc) β i ∙ mod-eq-of-lt h)
+
+-- ---- where a line lies
+
+module _ (s : Shape) (built : Built s) (row column β i l : ℕ) (type : β < Nβ s) (h : i < s .nc) where
   own-exists : exists s β i ≡ true → band-exists s (band s β i) ≡ true
   own-exists e =
-      let q : (s .nc * β + i) / s .nc ≡ β = mul-add-div (built .some) β i ∙ omega (arith, div-eq-of-lt h) in
-      let r : (s .nc * β + i) % s .nc ≡ i = mul-add-mod-self-left (s .nc) β i ∙ mod-eq-of-lt h in
-      rw (q, r) e
+      let parts = band-parts s β i h in
+      rw (parts .0, parts .1) e
 
   -- the line above lies before it
   own-above : 0 < row → 2 ^ depth s β i * Wc s i ≤ inner s β i (first-x s column β i) (first-y s row β i + l / sy s i)
@@ -69,7 +78,7 @@ module _ (s : Shape) (built : Built s) (row column β i l : ℕ) (type : β < N�
       apart = apart;
       narrow = omega (arith, narrow);
       few = omega (arith, narrow);
-      band = own-band;
+      band = band-below s β i h type;
       exists = own-exists (first-true (exists s β i) (eqb ((l + L0 s β i) % sy s i) 0) (ltb (l + L0 s β i) (L1 s row β i)) there);
       above = λ up. omega (arith, own-above up);
     }
@@ -84,66 +93,10 @@ lies c p slot j h k e =
     let fits = slot-fits s built slot j (h .which) k in
     line-lies s built (p .row) (p .column) (slot-type s slot + j / s .nc) (j % s .nc) (slot-line slot) (fits .0) (mod-lt j (built .some)) (fits .2) (h .column) e
 
--- ---- no two lines of a slot share a coefficient cell
-
-same-cell : (s : Shape) → Built s → {β β′ i i′ x x′ y y′ : ℕ} → i < s .nc → i′ < s .nc → Exists s i β x y → Exists s i′ β′ x′ y′
-    → cell s β i x y ≡ cell s β′ i′ x′ y′ → (β ≡ β′) × (i ≡ i′)
-same-cell s built {β} {β′} {i} {i′} {x} {x′} {y} {y′} h h′ c d e = pick (decLt i i′) (decLt i′ i)
-  where
-    pick : Dec (i < i′) → Dec (i′ < i) → (β ≡ β′) × (i ≡ i′)
-    pick (yes l) after = absurd (omega (arith, e, cell-inside s built i h c, starts-up s i i′ l))
-    pick (no l) (yes m) = absurd (omega (arith, e, cell-inside s built i′ h′ d, starts-up s i′ i m))
-    pick (no l) (no m) =
-        let q : i′ ≡ i = omega arith in
-        let f : cell s β i x y ≡ cell s β′ i x′ y′ = rw q at e in
-        (cells-differ s built i h c (rw q at d) (omega (arith, f)) .0, sym q)
-
-pub lines-apart : (c : Setting) (p : Precinct) (slot : ℕ) → Slotted c p slot → (j g x y : ℕ) → j < candidates (c .shape) slot → g < candidates (c .shape) slot
-    → line c p slot j .present ≡ true → line c p slot g .present ≡ true → x < line c p slot j .width → y < line c p slot g .width
-    → line c p slot j .cell + x * line c p slot j .stride ≡ line c p slot g .cell + y * line c p slot g .stride → j ≡ g
-unfolding line-at lineOf
-lines-apart c p slot h j g x y k l there other m n e =
-    let s = c .shape in
-    let built = h .settled .shape in
-    let fits = slot-fits s built slot j (h .which) k in
-    let fits′ = slot-fits s built slot g (h .which) l in
-    let i = mod-lt j (built .some) in
-    let i′ = mod-lt g (built .some) in
-    let q = line-inside s built (p .row) (p .column) (slot-type s slot + j / s .nc) (j % s .nc) (slot-line slot) (fits .0) i (fits .2) (h .column) there x m .0 in
-    let q′ = line-inside s built (p .row) (p .column) (slot-type s slot + g / s .nc) (g % s .nc) (slot-line slot) (fits′ .0) i′ (fits′ .2) (h .column) other y n .0 in
-    let same =
-    same-cell s built i i′
-    (line-exists s built (p .row) (p .column) (slot-type s slot + j / s .nc) (j % s .nc) (slot-line slot) (fits .0) i (fits .2) (h .column) there x m)
-    (line-exists s built (p .row) (p .column) (slot-type s slot + g / s .nc) (g % s .nc) (slot-line slot) (fits′ .0) i′ (fits′ .2) (h .column) other y n)
-    (sym q ∙ e ∙ q′) in
-    let b : j / s .nc ≡ g / s .nc = omega (arith, same .0) in
-    sym (div-add-mod' j (s .nc)) ∙ (λ t. b t * s .nc + same .1 t) ∙ div-add-mod' g (s .nc)
-
-stretches-apart : (s : Shape) (i i′ a b : ℕ) → start s i ≤ a → a < start s i + area s i → start s i′ ≤ b → b < start s i′ + area s i′ → a + area s i ≡ b → ⊥
-stretches-apart s i i′ a b low high low′ high′ e = pick (decLt i i′) (decLt i′ i)
-  where
-    pick : Dec (i < i′) → Dec (i′ < i) → ⊥
-    pick (yes l) after = omega (arith, starts-up s i i′ l)
-    pick (no l) (yes m) = omega (arith, starts-up s i′ i m)
-    pick (no l) (no m) =
-        let q : i′ ≡ i = omega arith in
-        omega (arith, ap (start s) q, ap (area s) q)
-
--- and no count cell is a coefficient's
-pub counts-apart : (c : Setting) (p : Precinct) (slot : ℕ) → Slotted c p slot → (j g x y : ℕ) → j < candidates (c .shape) slot → g < candidates (c .shape) slot
-    → line c p slot j .present ≡ true → line c p slot g .present ≡ true → x < line c p slot j .width → y < line c p slot g .width
-    → line c p slot j .cell + x * line c p slot j .stride + line c p slot j .area ≡ line c p slot g .cell + y * line c p slot g .stride → ⊥
-unfolding line-at lineOf
-counts-apart c p slot h j g x y k l there other m n e =
-    let s = c .shape in
-    let built = h .settled .shape in
-    let fits = slot-fits s built slot j (h .which) k in
-    let fits′ = slot-fits s built slot g (h .which) l in
-    let i = mod-lt j (built .some) in
-    let i′ = mod-lt g (built .some) in
-    stretches-apart s (j % s .nc) (g % s .nc) _ _ (omega arith)
-    (line-inside s built (p .row) (p .column) (slot-type s slot + j / s .nc) (j % s .nc) (slot-line slot) (fits .0) i (fits .2) (h .column) there x m .1) (omega arith)
-    (line-inside s built (p .row) (p .column) (slot-type s slot + g / s .nc) (g % s .nc) (slot-line slot) (fits′ .0) i′ (fits′ .2) (h .column) other y n .1) e
+-- its address
+pub there-in : {c : Setting} {p : Precinct} {slot j : ℕ} → Slotted c p slot → j < candidates (c .shape) slot → line c p slot j .present ≡ true
+    → There (c .shape) (p .row) (p .column) slot j
+there-in h k e = record { across = h .column; which = h .which; candidate = k; present = e }
 
 pub stride-some : (c : Setting) (p : Precinct) (slot j : ℕ) → 0 < line c p slot j .stride
 unfolding line-at lineOf

@@ -1,9 +1,11 @@
 -- Laws of segments and of the picture header. Assumes nothing.
-use Prim.Native.Nat.{ℕ, _+_, _*_, _≤_}
+use Prim.Native.Nat.{ℕ, _+_, _*_, _≤_, _<_}
 use mathlib.Core.Bool.{Bool, true, false, cond}
 use mathlib.Core.List.{List, _++_}
 use mathlib.Core.Path.{_≡_}
+use native.Mathlib.Decide.{decLt}
 use native.Mathlib.Omega.{arith}
+use borrow.Author.Tests.{lt-ltb}
 use lib.Dec.{ltb, lit≤}
 use lib.ListN.{length}
 use Rattle.bits.specs.Fields.{fieldAt}
@@ -15,7 +17,7 @@ use Rattle.rows.specs.declared.Verdict.the-variants.{Fine}
 use Rattle.rows.proofs.Tables.{append-fine, held}
 use Rattle.picture.specs.Markers.{PIH}
 use Rattle.picture.specs.Opening.{startChecks, picturePlace, pictureChecks, openingChecks, Opened}
-use Rattle.picture.specs.Picture.{pictureAt, sizeChecks, precisionChecks, modeChecks, levelChecks, fieldChecks, Built}
+use Rattle.picture.specs.Picture.{pictureAt, sizeChecks, precisionChecks, modeChecks, levelChecks, fieldChecks, mostCpih, Built}
 use Rattle.picture.specs.Segment.{segmentAt, markerChecks, lengthChecks, IsSegment}
 use Rattle.picture.specs.declared.segment.Segment.{Segment}
 
@@ -39,6 +41,10 @@ bw-range bw true false l m = omega arith
 bw-range bw false true l m = omega arith
 bw-range bw false false l m = omega arith
 
+three-of : (nc : ℕ) → Dec (nc < 3) → 1 ≤ mostCpih nc → 3 ≤ nc
+three-of nc (yes l) h = absurd (omega (arith, rw (lt-ltb nc 3 l) at h))
+three-of nc (no l) h = omega arith
+
 pub built : (s : List ℕ) (n p : ℕ) → first (fieldChecks n p (pictureAt s p)) ≡ Fine → Built (pictureAt s p)
 built s n p e =
     let h = pictureAt s p in
@@ -59,6 +65,7 @@ built s n p e =
       fq = omega (arith, b .1 .1 .1 .1 .1 .1 .0 .least, b .1 .1 .1 .1 .1 .1 .0 .most);
       br = omega (arith, b .1 .1 .1 .1 .1 .1 .1 .0 .least, b .1 .1 .1 .1 .1 .1 .1 .0 .most);
       cpih = m .1 .1 .1 .1 .0 .most;
+      colours = λ one. three-of (h .nc) (decLt (h .nc) 3) (omega (arith, one, m .1 .1 .0 .most));
       nlx = (l .1 .0 .least, l .1 .0 .most);
       nly = (l .1 .1 .0 .most, l .1 .1 .1 .1 .0 .most);
       lh = field-lt s _ 1;

@@ -155,6 +155,7 @@ pub record Built (h : Picture) : Type 0 where
   pub fq : h .fq ≡ fqFor (h .bw)
   pub br : h .br ≡ brFor (h .bw)
   pub cpih : h .cpih ≤ 1
+  pub colours : h .cpih ≡ 1 → 3 ≤ h .nc
   pub nlx : (1 ≤ h .nlx) × (h .nlx ≤ 5)
   pub nly : (h .nly ≤ h .nlx) × (h .nly ≤ 2)
   pub lh : h .lh < 2

@@ -1,12 +1,14 @@
 -- What precincts, slices and the stream leave, for the layers above: where a reading ends, which cells it keeps, and the largest T. Assumes nothing.
-use Prim.Native.Nat.{ℕ, zero, suc, _+_, _/_, _≤_, _<_, max}
+use Prim.Native.Nat.{ℕ, zero, suc, _+_, _/_, _^_, _≤_, _<_, max}
 use mathlib.Core.Path.{_≡_, refl, _∙_}
 use mathlib.Core.Bool.{Bool, true, false, cond}
 use mathlib.Core.List.{List, [], _∷_}
+use native.Mathlib.Decide.{decLt}
 use native.Mathlib.Omega.{arith}
 use lib.IntN.{ℤ}
 use lib.ListN.{length, getD, set, length-set}
-use Rattle.whole.specs.Cells.{cell}
+use lib.Seq.{getD-set-same, getD-set-other}
+use Rattle.whole.specs.Cells.{cell, Bounded}
 use Rattle.loops.specs.Run.{Turn, go}
 use Rattle.loops.proofs.Laws.{Kept, run-keeps}
 use Rattle.rows.specs.Rows.{first}
@@ -23,7 +25,7 @@ use Rattle.packets.specs.declared.Precinct.{Precinct}
 use Rattle.packets.specs.Precincts.{T}
 use Rattle.packets.specs.Ready.{Settled}
 use Rattle.packets.specs.Packets.{anyLine, packet}
-use Rattle.packets.proofs.Laws.{Apart, packet-length, packet-other, packet-behind}
+use Rattle.packets.proofs.Laws.{Apart, packet-length, packet-other, packet-behind, packet-bounded}
 use Rattle.packets.proofs.LinePasses.{T-most}
 use Rattle.slices.specs.Precinct.{precinctAt, headerChecks, body, noFlags, Packing, packed, packetTurn, restChecks, packets, packetsBy, precinct, holds, raisedBy, raised}
 use Rattle.slices.specs.Slice.{State, Left, rowOf, columnOf, isTop, sliceChecks, placed, precinctTurn, precincts, precinctsBy, slice}
@@ -102,6 +104,12 @@ module _ (s : List ℕ) (c : Setting) (P : List ℤ → Type 0) where
 
 -- ---- the cells: as many as before, and none changed behind those of the components
 
+pub precinct-length : (s : List ℕ) (c : Setting) (row column at : ℕ) (top : Bool) (cells : List ℤ)
+    → length (precinct s c row column at top cells .1) ≡ length cells
+precinct-length s c row column at top cells =
+    precinct-keeps s c (λ z. length z ≡ length cells) row column at
+    (λ slot place raws z l e. packet-length s c (precinctAt s c row column at) slot place raws z ∙ e) top cells refl
+
 module _ (s : List ℕ) (c : Setting) (settled : Settled c) where
   length-kept : (n t : ℕ) → PacketsKeep s c (λ z. length z ≡ n) t
   length-kept n t row column at slot place raws cells r q k j e = packet-length s c (precinctAt s c row column at) slot place raws cells ∙ e
@@ -133,6 +141,18 @@ module _ (s : List ℕ) (c : Setting) (settled : Settled c) where
         (λ row column at slot place raws cells r q k j e. packet-other s c (precinctAt s c row column at) slot place raws cells n (λ i m p. apart row column slot i r q k j m p) ∙ e)
         x refl
 
+-- ---- the size of what the cells hold
+
+module _ (s : List ℕ) (c : Setting) (settled : Settled c) {B : ℕ} (most : 2 ^ (31 + c .fq) ≤ B) where
+  bounded-kept : (t : ℕ) → PacketsKeep s c (Bounded B) t
+  bounded-kept t row column at slot place raws cells r q k j h = packet-bounded s c (precinctAt s c row column at) slot place raws cells settled most h
+
+  pub slice-bounded : (t : ℕ) → t < slices (c .shape) → (x : State) → Bounded B (x .2) → Bounded B (slice s c t x .1 .2)
+  slice-bounded t l = slice-keeps s c (Bounded B) (settled .shape) t l (bounded-kept t)
+
+  pub stream-bounded : (x : State) → Bounded B (x .2) → Bounded B (stream s c x .1 .2)
+  stream-bounded = stream-keeps s c (Bounded B) (settled .shape) bounded-kept
+
 -- ---- where an accepted reading ends
 
 pub stream-ends : (s : List ℕ) (c : Setting) (x : State) → stream s c x .0 ≡ Fine → stream s c x .1 .0 ≡ length s
@@ -161,6 +181,51 @@ set-few (x ∷ xs) zero k h (suc b) = h (suc b)
 set-few (x ∷ xs) (suc i) k h zero = h zero
 set-few (x ∷ xs) (suc i) k h (suc b) = set-few xs i k (λ j. h (suc j)) b
 
+module _ (c : Setting) (p : Precinct) where
+  pub raised-length : (n : ℕ) (tops : List ℕ) → length (raised c p n tops) ≡ length tops
+  unfolding raised
+  raised-length zero tops = refl
+  raised-length (suc n) tops = length-set (raised c p n tops) n (raisedBy c p n (getD tops n 0)) ∙ raised-length n tops
+
+  -- the bands from n on are still to come
+  raised-later : (n b : ℕ) (tops : List ℕ) → n ≤ b → getD (raised c p n tops) b 0 ≡ getD tops b 0
+  unfolding raised
+  raised-later zero b tops h = refl
+  raised-later (suc n) b tops h =
+      getD-set-other (raised c p n tops) n b (raisedBy c p n (getD tops n 0)) 0 (λ e. omega arith) ∙ raised-later n b tops (omega arith)
+
+  raised-at : (n b : ℕ) (tops : List ℕ) → b < n → b < length tops → getD (raised c p n tops) b 0 ≡ raisedBy c p b (getD tops b 0)
+  unfolding raised
+  raised-at zero b tops h l = absurd (omega arith)
+  raised-at (suc n) b tops h l = pick (decLt b n) (λ k. raised-at n b tops k l)
+    where
+      pick : Dec (b < n) → (b < n → getD (raised c p n tops) b 0 ≡ raisedBy c p b (getD tops b 0))
+          → getD (set (raised c p n tops) n (raisedBy c p n (getD tops n 0))) b 0 ≡ raisedBy c p b (getD tops b 0)
+      pick (yes k) before = getD-set-other (raised c p n tops) n b (raisedBy c p n (getD tops n 0)) 0 (λ e. omega arith) ∙ before k
+      pick (no k) before =
+          let q : b ≡ n = omega arith in
+          rw q (getD-set-same (raised c p n tops) n (raisedBy c p n (getD tops n 0)) 0 (omega (arith, raised-length n tops)))
+
+  raised-by-up : (b top : ℕ) → top ≤ raisedBy c p b top
+  raised-by-up b top = by (holds c p b)
+    where
+      by : (e : Bool) → top ≤ cond e (max top (T c p b)) top
+      by true = omega arith
+      by false = omega arith
+
+  -- none falls, and that of a band that the precinct holds is at least its T
+  pub raised-up : (n b : ℕ) (tops : List ℕ) → b < length tops → getD tops b 0 ≤ getD (raised c p n tops) b 0
+  raised-up n b tops l = pick (decLt b n)
+    where
+      pick : Dec (b < n) → getD tops b 0 ≤ getD (raised c p n tops) b 0
+      pick (yes k) = omega (arith, raised-at n b tops k l, raised-by-up b (getD tops b 0))
+      pick (no k) = omega (arith, raised-later n b tops (omega arith))
+
+  pub raised-holds : (n b : ℕ) (tops : List ℕ) → b < n → b < length tops → holds c p b ≡ true → T c p b ≤ getD (raised c p n tops) b 0
+  raised-holds n b tops k l h =
+      let e : raisedBy c p b (getD tops b 0) ≡ max (getD tops b 0) (T c p b) = rw h in
+      omega (arith, raised-at n b tops k l, e)
+
 module _ (c : Setting) (p : Precinct) (settled : Settled c) where
   raised-by-most : (b top : ℕ) → top ≤ 31 → raisedBy c p b top ≤ 31
   raised-by-most b top h = by (holds c p b)
@@ -169,40 +234,56 @@ module _ (c : Setting) (p : Precinct) (settled : Settled c) where
       by true = omega (arith, T-most c p b settled)
       by false = h
 
-  pub raised-length : (n : ℕ) (tops : List ℕ) → length (raised c p n tops) ≡ length tops
-  unfolding raised
-  raised-length zero tops = refl
-  raised-length (suc n) tops = length-set (raised c p n tops) n (raisedBy c p n (getD tops n 0)) ∙ raised-length n tops
-
   pub raised-most : (n : ℕ) (tops : List ℕ) → Few tops → Few (raised c p n tops)
   unfolding raised
   raised-most zero tops h = h
   raised-most (suc n) tops h = set-few (raised c p n tops) n (raised-by-most n (getD tops n 0) (h n)) (raised-most n tops h)
 
-module _ (s : List ℕ) (c : Setting) (settled : Settled c) where
-  abbrev FewHere : Turn State Left → Type 0
-  FewHere u = Kept (λ (y : State). Few (y .1)) (λ (r : Left). Few (r .1 .1)) u
+-- what each precinct keeps of the largest T, a slice and the stream keep
+module _ (s : List ℕ) (c : Setting) (P : List ℕ → Type 0) (kept : (p : Precinct) (tops : List ℕ) → P tops → P (raised c p (NL (c .shape)) tops)) where
+  abbrev TopsHere : Turn State Left → Type 0
+  TopsHere u = Kept (λ (y : State). P (y .1)) (λ (r : Left). P (r .1 .1)) u
 
-  placed-few : (t n : ℕ) (x : State) (y : Verdict × List ℤ) → Few (x .1) → FewHere (placed s c t n x y)
-  placed-few t n x (Fine, cells) h = raised-most c (precinctAt s c (rowOf s c t n) (columnOf s c t n) (x .0)) settled (NL (c .shape)) (x .1) h
-  placed-few t n x (Refused k, cells) h = h
+  placed-tops : (t n : ℕ) (x : State) (y : Verdict × List ℤ) → P (x .1) → TopsHere (placed s c t n x y)
+  placed-tops t n x (Fine, cells) h = kept (precinctAt s c (rowOf s c t n) (columnOf s c t n) (x .0)) (x .1) h
+  placed-tops t n x (Refused k, cells) h = h
 
-  pub slice-few : (t : ℕ) (x : State) → Few (x .1) → Few (slice s c t x .1 .1)
+  pub slice-tops : (t : ℕ) (x : State) → P (x .1) → P (slice s c t x .1 .1)
   unfolding slice precincts precinctTurn
-  slice-few t x h = by (first (sliceChecks s t (x .0)))
+  slice-tops t x h = by (first (sliceChecks s t (x .0)))
     where
-      by : (v : Verdict) → Few (precinctsBy s c t v x .1 .1)
+      by : (v : Verdict) → P (precinctsBy s c t v x .1 .1)
       by Fine =
-          run-keeps (λ (y : State). Few (y .1)) (λ (r : Left). Few (r .1 .1)) (precinctTurn s c t) (λ y. (Fine, y)) (Np (c .shape) t) (λ y p. p)
-          (λ n y k p. placed-few t n y (precinct s c (rowOf s c t n) (columnOf s c t n) (y .0) (isTop s c t n) (y .2)) p) (Np (c .shape) t) 0 (x .0 + 6, x .1, x .2) (omega arith) h
+          run-keeps (λ (y : State). P (y .1)) (λ (r : Left). P (r .1 .1)) (precinctTurn s c t) (λ y. (Fine, y)) (Np (c .shape) t) (λ y p. p)
+          (λ n y k p. placed-tops t n y (precinct s c (rowOf s c t n) (columnOf s c t n) (y .0) (isTop s c t n) (y .2)) p) (Np (c .shape) t) 0 (x .0 + 6, x .1, x .2) (omega arith) h
       by (Refused k) = h
 
-  sliced-few : (y : Left) → Few (y .1 .1) → FewHere (sliced y)
-  sliced-few (Fine, x) h = h
-  sliced-few (Refused k, x) h = h
+  sliced-tops : (y : Left) → P (y .1 .1) → TopsHere (sliced y)
+  sliced-tops (Fine, x) h = h
+  sliced-tops (Refused k, x) h = h
 
-  pub stream-few : (x : State) → Few (x .1) → Few (stream s c x .1 .1)
+  pub stream-tops : (x : State) → P (x .1) → P (stream s c x .1 .1)
   unfolding stream sliceTurn
-  stream-few x h =
-      run-keeps (λ (y : State). Few (y .1)) (λ (r : Left). Few (r .1 .1)) (sliceTurn s c) (ended s) (slices (c .shape)) (λ y p. p)
-      (λ t y l p. sliced-few (slice s c t y) (slice-few t y p)) (slices (c .shape)) 0 x (omega arith) h
+  stream-tops x h =
+      run-keeps (λ (y : State). P (y .1)) (λ (r : Left). P (r .1 .1)) (sliceTurn s c) (ended s) (slices (c .shape)) (λ y p. p)
+      (λ t y l p. sliced-tops (slice s c t y) (slice-tops t y p)) (slices (c .shape)) 0 x (omega arith) h
+
+module _ (s : List ℕ) (c : Setting) where
+  pub slice-few : Settled c → (t : ℕ) (x : State) → Few (x .1) → Few (slice s c t x .1 .1)
+  slice-few settled = slice-tops s c Few (λ p. raised-most c p settled (NL (c .shape)))
+
+  pub stream-few : Settled c → (x : State) → Few (x .1) → Few (stream s c x .1 .1)
+  stream-few settled = stream-tops s c Few (λ p. raised-most c p settled (NL (c .shape)))
+
+  pub slice-tops-length : (t : ℕ) (x : State) → length (slice s c t x .1 .1) ≡ length (x .1)
+  slice-tops-length t x = slice-tops s c (λ z. length z ≡ length (x .1)) (λ p tops e. raised-length c p (NL (c .shape)) tops ∙ e) t x refl
+
+  pub stream-tops-length : (x : State) → length (stream s c x .1 .1) ≡ length (x .1)
+  stream-tops-length x = stream-tops s c (λ z. length z ≡ length (x .1)) (λ p tops e. raised-length c p (NL (c .shape)) tops ∙ e) x refl
+
+  -- no largest T falls
+  pub slice-tops-up : (t : ℕ) (x : State) (b : ℕ) → b < length (x .1) → getD (x .1) b 0 ≤ getD (slice s c t x .1 .1) b 0
+  slice-tops-up t x b h =
+      slice-tops s c (λ z. (length z ≡ length (x .1)) × (getD (x .1) b 0 ≤ getD z b 0))
+      (λ p tops q. (raised-length c p (NL (c .shape)) tops ∙ q .0, omega (arith, q .0, q .1, raised-up c p (NL (c .shape)) b tops (omega (arith, q .0)))))
+      t x (refl, omega arith) .1

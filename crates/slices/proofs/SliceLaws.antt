@@ -1,8 +1,8 @@
 -- What the steps of a slice and of the stream rest on. Assumes nothing.
-use Prim.Native.Nat.{ℕ, _+_, _/_, _%_, _≤_, _<_}
-use mathlib.Core.Path.{_≡_, refl, sym, _∙_}
+use Prim.Native.Nat.{ℕ, suc, _+_, _-_, _*_, _/_, _%_, _≤_, _<_}
+use mathlib.Core.Path.{_≡_, refl, sym, ap, _∙_}
 use mathlib.Core.List.{List, [], _∷_, _++_}
-use native.Mathlib.Nat.{mul-comm, mod-lt, div-lt-iff-lt-mul}
+use native.Mathlib.Nat.{mul-comm, suc-mul, mod-lt, mod-eq-of-lt, div-eq-of-lt, div-lt-iff-lt-mul, mul-le-mul-right, mul-add-div-right, mul-add-mod-self-right}
 use native.Mathlib.Omega.{arith}
 use borrow.Author.Tests.{eqb-false}
 use lib.Dec.{eqb}
@@ -23,7 +23,7 @@ use Rattle.layout.specs.Built.{Built}
 use Rattle.layout.specs.Bands.{NL}
 use Rattle.layout.specs.Precincts.{Npx, Npy, Np, slices, slice-rows, slice-top}
 use Rattle.layout.proofs.Columns.{Npx-some}
-use Rattle.layout.proofs.Cover.{slice-row}
+use Rattle.layout.proofs.Cover.{row-slice, slice-row}
 use Rattle.packets.specs.declared.Setting.{Setting}
 use Rattle.packets.specs.declared.Precinct.{Precinct}
 use Rattle.packets.specs.Ready.{Settled}
@@ -46,6 +46,31 @@ module _ (s : Shape) (built : Built s) (t : ℕ) (h : t < slices s) where
 
     pub column-inside : n % Npx s < Npx s
     column-inside = mod-lt n (Npx-some s built)
+
+-- every precinct of the picture is number n of a slice t
+pub record Numbered (s : Shape) (row column : ℕ) : Type 0 where
+  pub t : ℕ
+  pub n : ℕ
+  pub slice : t < slices s
+  pub precinct : n < Np s t
+  pub down : row ≡ slice-top s t + n / Npx s
+  pub across : column ≡ n % Npx s
+
+pub numbered : (s : Shape) → Built s → {row column : ℕ} → row < Npy s → column < Npx s → Numbered s row column
+numbered s built {row} {column} h k =
+    let q = row-slice s built row h in
+    let t = row / s .hsl in
+    let r = row - slice-top s t in
+    let more : suc r * Npx s ≤ slice-rows s t * Npx s = mul-le-mul-right (Npx s) (omega (arith, q)) in
+    let div : (r * Npx s + column) / Npx s ≡ r + 0 = mul-add-div-right (Npx-some s built) r column ∙ ap (λ (m : ℕ). r + m) (div-eq-of-lt k) in
+    record {
+      t = t;
+      n = r * Npx s + column;
+      slice = q .0;
+      precinct = omega (arith, more, suc-mul r (Npx s), mul-comm (Npx s) (slice-rows s t));
+      down = omega (arith, q, div);
+      across = sym (mul-add-mod-self-right r (Npx s) column ∙ mod-eq-of-lt k);
+    }
 
 -- the precinct that is read for turn n of slice t, where `columns` is the number of precincts in a row
 module _ (s : List ℕ) (c : Setting) (t n at : ℕ) {columns : ℕ} {p : Precinct} (e : columns ≡ Npx (c .shape)) (x : IsPrecinct s c (slice-top (c .shape) t + n / columns) (n % columns) at p) where

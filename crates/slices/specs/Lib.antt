@@ -2,4 +2,5 @@
 pub mod Precinct
 pub mod Slice
 pub mod Stream
+pub mod Reached
 pub mod Steps

@@ -14,14 +14,14 @@ use Rattle.wavelet.proofs.Levels.{across-level, both-level, low-place}
 use Rattle.wavelet.proofs.Passes.{rows-size, columns-size, samples-le}
 
 -- the next turn of a loop that counts down
-down-turn : {S : Type 0} (turn : ℕ → S → S) (to : ℕ) {d e : ℕ} (s : S) → d ≡ suc e → to < d → down turn to (d - to) s ≡ down turn to (e - to) (turn d s)
+pub down-turn : {S : Type 0} (turn : ℕ → S → S) (to : ℕ) {d e : ℕ} (s : S) → d ≡ suc e → to < d → down turn to (d - to) s ≡ down turn to (e - to) (turn d s)
 unfolding down
 down-turn turn to {d} {e} s p h =
     let q : d - to ≡ suc (e - to) = omega arith in
     let r : to + suc (e - to) ≡ d = omega arith in
     rw q (ap (λ (n : ℕ). down turn to (e - to) (turn n s)) r)
 
-down-none : {S : Type 0} (turn : ℕ → S → S) (to d : ℕ) (s : S) → d ≤ to → down turn to (d - to) s ≡ s
+pub down-none : {S : Type 0} (turn : ℕ → S → S) (to d : ℕ) (s : S) → d ≤ to → down turn to (d - to) s ≡ s
 unfolding down
 down-none turn to d s h =
     let p : d - to ≡ 0 = omega arith in

@@ -6,7 +6,7 @@ use native.Mathlib.Decide.{decLt}
 use native.Mathlib.Numerals.{add-one}
 use native.Mathlib.Omega.{arith}
 use lib.ListN.{length, take, getD, set, length-set, length-append, List·getD-append, List·getD-eq-default}
-use lib.Seq.{take-all, take-suc-set, getD-append-seam}
+use lib.Seq.{take-all, take-suc-set, getD-append-seam, ext-getD}
 use Rattle.whole.specs.Cells.{listed}
 
 -- the first b of n elements are those of f
@@ -50,3 +50,14 @@ listed-at (suc n) f d b h = pick (decLt b n) (listed-at n f d b)
 
 pub listed-past : {A : Type 0} (n : ℕ) (f : ℕ → A) (d : A) (b : ℕ) → n ≤ b → getD (listed n f) b d ≡ d
 listed-past n f d b h = List·getD-eq-default (listed n f) d (omega (arith, listed-length n f))
+
+-- a list of n elements is that of its own
+pub listed-self : {A : Type 0} (n : ℕ) (xs : List A) (d : A) → length xs ≡ n → xs ≡ listed n (λ b. getD xs b d)
+listed-self n xs d e =
+    ext-getD d xs (listed n (λ b. getD xs b d)) (e ∙ sym (listed-length n (λ b. getD xs b d)))
+    (λ b h. sym (listed-at n (λ b. getD xs b d) d b (omega arith)))
+
+pub listed-same : {A : Type 0} (n : ℕ) (f g : ℕ → A) → ((b : ℕ) → b < n → f b ≡ g b) → listed n f ≡ listed n g
+unfolding listed
+listed-same zero f g same = refl
+listed-same (suc n) f g same = λ i. listed-same n f g (λ b h. same b (omega arith)) i ++ (same n (omega arith) i ∷ [])

@@ -8,7 +8,7 @@ use Rattle.pitchladle.proofs.pitchladle_read.Tie as tie
 returns : tie.Need-returns
 returns c =
     let r = c .before .before .before .before .read .ensures in
-    record { cells-are = c .cells-of .ensures ∙ ap cellsOf (r .record-is); reads = (rw (r .record-is) at r) }
+    record { cells-are = c .cells-of .ensures ∙ ap cellsOf (r .page); reads = (rw (r .page) at r) }
 
 pub pitchladle-read-spec : {M : Type 1} → statement M
 pitchladle-read-spec =

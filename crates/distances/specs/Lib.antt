@@ -1,0 +1,3 @@
+-- Document 01's distance rule.
+pub mod Rule
+pub mod Steps

@@ -1,0 +1,91 @@
+-- The stretches of the work cells that hold the components' values. Assumes nothing.
+use mathlib.Core.Path.{_≡_, refl}
+use mathlib.Core.Logic.{_≢_}
+use mathlib.Core.List.{List}
+use Prim.Native.Nat.{ℕ, zero, suc, _+_, _*_, _-_, _/_, _%_, _≤_, _<_}
+use native.Mathlib.Nat.{mul-comm, mod-lt, div-lt-iff-lt-mul, div-add-mod'}
+use native.Mathlib.Decide.{ℕ-discrete, decLt}
+use native.Mathlib.Omega.{arith}
+use lib.IntN.{ℤ, natAbs}
+use lib.ListN.{length}
+use Rattle.whole.specs.Cells.{cell}
+use Rattle.wavelet.specs.Places.{Component}
+use Rattle.layout.specs.declared.Shape.{Shape}
+use Rattle.layout.specs.Bands.{Wc, Hc, N′x, N′y}
+use Rattle.layout.specs.Built.{Built}
+use Rattle.layout.specs.Cells.{area, start}
+use Rattle.layout.specs.Sizes.{component-of}
+use Rattle.layout.proofs.Shapes.{component-small}
+use Rattle.layout.proofs.Cells.{cell-below, starts-up}
+use Rattle.planes.specs.Places.{Ready}
+use Rattle.planes.specs.Components.{ReadyOne}
+
+-- a component is one that Annex E takes
+pub component : {s : Shape} → Built s → {i : ℕ} → i < s .nc → Component (Wc s i) (Hc s i) (N′x s i) (N′y s i) (area s i)
+unfolding area
+component {s} built {i} h =
+    let p = component-small s i (component-of s i) built h refl in
+    record {
+      sheet = record { all = mul-comm (Hc s i) (Wc s i); wide = p .wide; narrow = p .narrow; high = p .high; low = p .low };
+      levels = built .levels;
+      fewer = p .levels;
+      parts = built .sampled i h .parts;
+    }
+
+module _ (s : Shape) where
+  -- a value stands in its component's stretch
+  pub offset-below : (i x y : ℕ) → x < Wc s i → y < Hc s i → y * Wc s i + x < area s i
+  unfolding area
+  offset-below i x y c r = cell-below (Wc s i) y x c (Hc s i) r
+
+  -- and in no other's
+  pub stretches-apart : {i j : ℕ} → i ≢ j → (n : ℕ) → n < area s i → start s j ≤ start s i + n → start s j + area s j ≤ start s i + n
+  stretches-apart {i} {j} d n h = pick (decLt i j)
+    where
+      pick : Dec (i < j) → start s j ≤ start s i + n → start s j + area s j ≤ start s i + n
+      pick (yes l) k = absurd (omega (arith, starts-up s i j l))
+      pick (no l) k = omega (arith, starts-up s j i (omega (arith, d)))
+
+-- every cell of the stretch is a value's: the n-th stands in column n mod W and row floor(n / W)
+pub row-below : {s : Shape} → Built s → {i : ℕ} → i < s .nc → (n : ℕ) → n < area s i → (n % Wc s i < Wc s i) × (n / Wc s i < Hc s i)
+unfolding area
+row-below {s} built {i} h n l =
+    let wide = component built h .sheet .wide in
+    (mod-lt n wide, div-lt-iff-lt-mul wide .1 (omega (arith, mul-comm (Wc s i) (Hc s i))))
+
+-- a cell is in the stretch of one of the first k components, or in none
+pub data Owner (s : Shape) (k j : ℕ) : Type 0 where
+  within : (i n : ℕ) → i < k → n < area s i → j ≡ start s i + n → Owner s k j
+  outside : ((i : ℕ) → i < k → start s i ≤ j → start s i + area s i ≤ j) → Owner s k j
+
+pub owner : (s : Shape) (k j : ℕ) → Owner s k j
+owner s zero j = outside (λ i h. absurd (omega arith))
+owner s (suc k) j = pick (owner s k j) (decLt j (start s k)) (decLt j (start s k + area s k))
+  where
+    none : ((i : ℕ) → i < k → start s i ≤ j → start s i + area s i ≤ j) → (start s k ≤ j → start s k + area s k ≤ j) → Owner s (suc k) j
+    none f own = outside (λ i h. at i h (ℕ-discrete i k))
+      where
+        at : (i : ℕ) → i < suc k → Dec (i ≡ k) → start s i ≤ j → start s i + area s i ≤ j
+        at i h (yes e) = rw e own
+        at i h (no n) = f i (omega (arith, n))
+
+    pick : Owner s k j → Dec (j < start s k) → Dec (j < start s k + area s k) → Owner s (suc k) j
+    pick (within i n h b e) _ _ = within i n (omega arith) b e
+    pick (outside f) (yes l) _ = none f (λ h. absurd (omega arith))
+    pick (outside f) (no l) (yes m) = within k (j - start s k) (omega arith) (omega arith) (omega arith)
+    pick (outside f) (no l) (no m) = none f (λ _. omega arith)
+
+-- ---- what is asked of the cells, of one component
+pub ready-one : {s : Shape} {bound i : ℕ} {l : List ℤ} → Ready s bound l → i < s .nc → ReadyOne s bound i l
+ready-one {i = i} ready h =
+    record { built = ready .built; there = h; room = ready .room; small = λ x y c r. ready .small i x y (record { component = h; column = c; row = r }) }
+
+module _ {s : Shape} {bound i : ℕ} {l : List ℤ} (ready : ReadyOne s bound i l) where
+  pub stretch-fits : start s i + area s i ≤ length l
+  stretch-fits = omega (arith, starts-up s i (s .nc) (ready .there), ready .room)
+
+  pub stretch-small : (n : ℕ) → n < area s i → natAbs (cell l (start s i + n)) ≤ bound
+  stretch-small n h =
+      let p = row-below (ready .built) (ready .there) n h in
+      let e : n / Wc s i * Wc s i + n % Wc s i ≡ n = div-add-mod' n (Wc s i) in
+      rw e at (ready .small (n % Wc s i) (n / Wc s i) (p .0) (p .1))

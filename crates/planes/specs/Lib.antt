@@ -1,0 +1,4 @@
+-- From the coefficients of a picture to its samples.
+pub mod Values
+pub mod Places
+pub mod Components

@@ -1,0 +1,59 @@
+-- From the coefficients of a picture to its samples: Annex E for each component, Annex F, Annex G.
+use mathlib.Core.Bool.{cond}
+use mathlib.Core.List.{List, [], _++_}
+use Prim.Native.Nat.{ℕ, zero, suc, _*_, _/_, _%_}
+use lib.Dec.{eqb}
+use lib.IntN.{ℤ}
+use Rattle.whole.specs.Cells.{listed}
+use Rattle.wavelet.specs.Filter.{samples}
+use Rattle.wavelet.specs.Transform.{Kind, Band, inverse}
+use Rattle.colour.specs.Rct.{inverseRct}
+use Rattle.colour.specs.declared.Pixel.{Pixel}
+use Rattle.output.specs.Linear.{sample}
+use Rattle.layout.specs.declared.Shape.{Shape}
+use Rattle.layout.specs.Bands.{Wc, Hc, N′x, N′y}
+
+-- T[β, x, y] of each component i, with β by its letters and depths
+abbrev pub Coefficients : Type 0
+Coefficients = ℕ → Kind → ℕ → ℕ → Band ℤ
+
+-- a value for each component i, column x and row y
+abbrev pub Values : Type 0 → Type 0
+Values A = ℕ → Band A
+
+-- Annex E: every component is decomposed
+unfoldable pub transformed : Shape → Coefficients → Values ℤ
+transformed s T i = inverse samples (Wc s i) (Hc s i) (N′x s i) (N′y s i) (T i)
+
+-- the pixel in column x and row y
+abbrev pub pixelAt : Values ℤ → ℕ → ℕ → Pixel
+pixelAt v x y = record { c0 = v 0 x y; c1 = v 1 x y; c2 = v 2 x y }
+
+-- component i of a pixel; a fourth component takes no part
+abbrev pub partOf : Pixel → ℤ → ℕ → ℤ
+partOf p rest zero = p .c0
+partOf p rest (suc zero) = p .c1
+partOf p rest (suc (suc zero)) = p .c2
+partOf p rest (suc (suc (suc i))) = rest
+
+-- Annex F, Table F.1: Cpih is 1 for the reversible transform of F.3, and 0 for none
+unfoldable pub coloured : ℕ → Values ℤ → Values ℤ
+coloured Cpih v i x y = cond (eqb Cpih 1) (partOf (inverseRct (pixelAt v x y)) (v i x y) i) (v i x y)
+
+-- G.3, with each component's precision
+unfoldable pub sampled : ℕ → (ℕ → ℕ) → Values ℤ → Values ℕ
+sampled Bw B v i x y = sample Bw (B i) (v i x y)
+
+-- the whole way
+abbrev pub samplesOf : Shape → ℕ → ℕ → (ℕ → ℕ) → Coefficients → Values ℕ
+samplesOf s Cpih Bw B T = sampled Bw B (coloured Cpih (transformed s T))
+
+-- ---- 'Samples stand component by component, row by row'
+
+abbrev pub plane : ℕ → ℕ → Band ℕ → List ℕ
+plane W H f = listed (H * W) (λ j. f (j % W) (j / W))
+
+-- the first n components
+unfoldable pub planes : Shape → Values ℕ → ℕ → List ℕ
+planes s f zero = []
+planes s f (suc n) = planes s f n ++ plane (Wc s n) (Hc s n) (f n)

@@ -1,0 +1,12 @@
+-- `reader::read` meets its contract. Assumes nothing.
+use borrow.Author.Needs.{needs}
+use Rattle.reader.proofs.read.Statement.{statement}
+use Rattle.reader.proofs.read.Tie as tie
+
+read-by-requires : tie.Need-read-by-requires
+read-by-requires c κs =
+    let r = c .before .before .before .read .ensures .value in
+    (λ i. r i .verdict, λ i. r i .header)
+
+pub read-spec : {M : Type 1} → statement M
+read-spec = tie.close (tie.spec (λ c κs. search needs) read-by-requires (λ c. search needs) (λ c. search needs) (λ c. search needs))

@@ -1,0 +1,6 @@
+-- The page reader: what a reading answers, and what it leaves in the lent buffers.
+pub mod Settings
+pub mod Decoding
+pub mod Page
+pub mod Steps
+pub mod Sizes
