@@ -1,6 +1,6 @@
 /* Reads a page from a file, prints its record, and writes its samples as pictures that any viewer opens.
  *
- * One component becomes a PGM, three of one size and precision a PPM; of any other page each component becomes a PGM of its own, PICTURE.0, PICTURE.1 and so on.
+ * One component becomes a PGM, three of one size and precision a PPM; of any other page each component becomes a PGM of its own, PICTURE.0 and so on.
  * Samples of more than 8 bits take two bytes, the high one first. A comment line for each component has its distance. */
 #include <errno.h>
 #include <stdio.h>

@@ -1,7 +1,7 @@
 /* Pitchladle: reads pages that are stored as JPEG XS (ISO/IEC 21122-1:2024), and says how far a sample may be from the scan.
  *
- * What a function promises here is proved, for every stream and whatever the lent buffers hold: crates/pitchladle and crates/reader have the statements. It
- * keeps no state, asks for no memory, and writes to nothing but the buffers that it is lent.
+ * What a function promises here is proved, for every stream and whatever the lent buffers hold: crates/pitchladle and crates/reader have the
+ * statements. It keeps no state, asks for no memory, and writes to nothing but the buffers that it is lent.
  *
  * What the caller must see to, and nothing else does:
  *   - a pointer is valid for as many cells as the count behind it says, and aligned for its type; it is not null, even where the count is 0;
@@ -28,8 +28,8 @@ extern "C" {
  *   7  a bitplane count is not from 0 to 31
  *   8  a prediction or a raw flag is chosen where it may not be */
 
-/* One component of a page: its size in samples, the bits of a sample (8 to 16), and the distance. No sample of the component is further than its distance
- * from what the encoder's own coefficients would have given; a distance of 0 says that none is off. */
+/* One component of a page: its size in samples, the bits of a sample (8 to 16), and the distance. No sample of the component is further than its
+ * distance from what the encoder's own coefficients would have given; a distance of 0 says that none is off. */
 struct pitchladle_component {
     uint64_t width, height, precision, distance;
 };
@@ -49,19 +49,19 @@ struct pitchladle_part {
 
 /* Reads a page. With N as pitchladle_needs says, it takes N sample cells and 2 N work cells; more may be lent, and with fewer the answer is 5.
  *   The record is written whole.
- *   Samples stand component by component, row by row, from the first cell on. Where the page is refused no sample cell is changed, and where it is read none
- *   behind the N is.
- *   The work cells may hold anything. Of a page whose header is refused, or with a buffer too short, none is changed; else the first 2 N are 0 afterwards, so
- *   that nothing of one page is left for the next, and the others are as they were. */
+ *   Samples stand component by component, row by row, from the first cell on. Where the page is refused no sample cell is changed, and where it is
+ *   read none behind the N is.
+ *   The work cells may hold anything. Where the stream is refused before its first slice, or a buffer is too short, none is changed; else the first
+ *   2 N are 0 afterwards, so that nothing of one page is left for the next, and the others are as they were. */
 void pitchladle_read(const uint8_t *stream, size_t stream_bytes, uint16_t *samples, size_t sample_cells, int64_t *work, size_t work_cells,
                      struct pitchladle_page *page);
 
-/* How many samples the page has: the sum of width times height over its components, at most 2^30. 0 where the stream is refused before its first slice; any
- * other page may still be refused later. */
+/* How many samples the page has: the sum of width times height over its components, at most 2^30. 0 where the stream is refused before its first
+ * slice; any other page may still be refused later. */
 uint64_t pitchladle_needs(const uint8_t *stream, size_t stream_bytes);
 
-/* Where the bench caption stands, without its header. Place and size are both 0 where there is none, or the stream is refused before its first slice; the
- * part always lies in the stream. */
+/* Where the bench caption stands, without its header. Place and size are both 0 where there is none, or the stream is refused before its first
+ * slice; the part always lies in the stream. */
 void pitchladle_caption(const uint8_t *stream, size_t stream_bytes, struct pitchladle_part *part);
 
 #ifdef __cplusplus

@@ -1,8 +1,8 @@
 /* Times the library and the independent decoder on the same pages in one run, and prints how many times the decoder's time the library takes.
  *
- * Usage: bench READINGS FILE... Each page is read READINGS times by either, in turn, and the shortest time of each counts: processor time of this program. The
- * library's buffers are lent, and not cleared between readings. The decoder makes its own in each reading; the memory stays with the program, so that neither
- * waits for new pages of it after the first reading. */
+ * Usage: bench READINGS FILE... Each page is read READINGS times by either, in turn, and the shortest time of each counts: processor time of this
+ * program. The library's buffers are lent, and not cleared between readings. The decoder makes its own in each reading; the memory stays with the
+ * program, so that neither waits for new pages of it after the first reading. */
 #include <malloc.h>
 #include <stdbool.h>
 #include <stdio.h>

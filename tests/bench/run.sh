@@ -1,6 +1,7 @@
 #!/bin/sh
-# Times the library beside the independent decoder, both built for x86-64, on lossless, lossy, 4:2:0 and large pages of 1, 4 and 16 megapixels, and prints a table.
-# Usage: run.sh FOLDER [READINGS [SIDE...]], where tests/build.sh has put its programs. On Arm both run in one emulator: only the ratio says something there.
+# Times the library beside the independent decoder, both built for x86-64, on lossless, lossy, 4:2:0 and one-component pages of 1, 4 and 16 megapixels,
+# and prints a table. Usage: run.sh FOLDER [READINGS [SIDE...]], where tests/build.sh has put its programs. On Arm both run in one emulator: only the ratio says
+# something there.
 set -eu
 bin=$(realpath "${1:?"usage: run.sh FOLDER [READINGS]"}")
 readings=${2:-5}

@@ -1,1 +1,2 @@
 pub mod Caption
+pub mod Once

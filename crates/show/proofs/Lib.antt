@@ -1,1 +1,4 @@
 pub mod Counted
+pub mod Digits
+pub mod Puts
+pub mod Once

@@ -1,0 +1,9 @@
+-- Uniqueness: two outcomes that keep the contract of `page_text` are equal. Assumes nothing.
+use Prim.Native.Nat.{ℕ}
+use mathlib.Core.List.{List}
+use mathlib.Core.Path.{_≡_, sym, _∙_}
+use Rattle.show.specs.Buffer.{PageText}
+use Rattle.reader.specs.declared.page.Page.{Page}
+
+pub text-once : {p : Page} {samples o o₁ o₂ : List ℕ} {r₁ r₂ : ℕ} → PageText p samples o r₁ o₁ → PageText p samples o r₂ o₂ → (r₁ ≡ r₂) × (o₁ ≡ o₂)
+text-once x y = (x .count ∙ sym (y .count), x .text ∙ sym (y .text))

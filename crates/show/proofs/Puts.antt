@@ -1,0 +1,154 @@
+-- Laws of putting texts: one after another, and what a text at the buffer's beginning leaves. Assumes nothing.
+use Prim.Native.Nat.{ℕ, zero, suc, _+_, _≤_, _<_, min}
+use mathlib.Core.Bool.{Bool, true, false, cond}
+use mathlib.Core.List.{List, [], _∷_, _++_, append-assoc}
+use mathlib.Core.Path.{_≡_, refl, sym, ap, _∙_}
+use native.Mathlib.Numerals.{add-one}
+use native.Mathlib.Nat.{zero-min, min-zero, suc-min-suc, min-le-right}
+use native.Mathlib.Omega.{arith}
+use borrow.Author.Tests.{lt-ltb, le-ltb, ne-eqb}
+use lib.Dec.{leb}
+use lib.ListN.{length, set, take, drop, getD, length-append, length-set}
+use lib.Seq.{take-suc, take-nil, set-out, set-append-seam}
+use Rattle.show.specs.Text.{ascii, decimal, gap, samplesText, rowText, Part, also, nextRow, rows, widthOf, heightOf, heading, component, components}
+use Rattle.show.specs.Buffer.{State, putByte, puts, Put, Shown}
+use Rattle.reader.specs.declared.page.Page.{Page}
+use Rattle.show.specs.declared.Progress.{Progress}
+
+-- ---- one byte
+
+pub put-in : (b at : ℕ) (o : List ℕ) → at < length o → Put (b ∷ []) at o (at + 1) (set o at b)
+unfolding puts
+put-in b at o h = record { state = λ i. (cond (sym (lt-ltb at (length o) h) i) (at + 1) at, set o at b) }
+
+pub put-out : (b at : ℕ) (o : List ℕ) → length o ≤ at → Put (b ∷ []) at o at o
+unfolding puts
+put-out b at o h = record { state = λ i. (cond (sym (le-ltb at (length o) h) i) (at + 1) at, sym (set-out o at b h) i) }
+
+-- ---- one text after another
+
+puts-append : (t u : List ℕ) (s : State) → puts (t ++ u) s ≡ puts u (puts t s)
+unfolding puts
+puts-append [] u s = refl
+puts-append (b ∷ t) u s = puts-append t u (putByte b s)
+
+puts-length : (t : List ℕ) (s : State) → length (puts t s .1) ≡ length (s .1)
+unfolding puts
+puts-length [] s = refl
+puts-length (b ∷ t) s = puts-length t (putByte b s) ∙ length-set (s .1) (s .0) b
+
+-- the buffer keeps its length
+pub put-length : {t o o′ : List ℕ} {at r : ℕ} → Put t at o r o′ → length o′ ≡ length o
+put-length {t} {o} {at = at} p = (λ i. length (p .state i .1)) ∙ puts-length t (at, o)
+
+pub put-none : (at : ℕ) (o : List ℕ) → Put [] at o at o
+unfolding puts
+put-none at o = record { state = refl }
+
+pub put-both : {t u o o₁ o₂ : List ℕ} {at r₁ r₂ : ℕ} → Put t at o r₁ o₁ → Put u r₁ o₁ r₂ o₂ → Put (t ++ u) at o r₂ o₂
+put-both {t} {u} {o} {at = at} p q = record { state = q .state ∙ ap (puts u) (p .state) ∙ sym (puts-append t u (at, o)) }
+
+pub put-next : {o o₁ o₂ : List ℕ} {at r₁ r₂ : ℕ} (x : List ℕ) (i : ℕ) → i < length x → Put (take i x) at o r₁ o₁ → Put (getD x i 0 ∷ []) r₁ o₁ r₂ o₂
+    → Put (take (i + 1) x) at o r₂ o₂
+put-next x i h p q = rw (add-one, take-suc x i 0) (put-both p q)
+
+-- ---- the space before a sample
+
+pub put-no-gap : (x at : ℕ) (o : List ℕ) → x ≡ 0 → Put (gap x) at o at o
+put-no-gap x at o h = rw h (put-none at o)
+
+pub put-gap : {o o′ : List ℕ} {at r : ℕ} (x : ℕ) → 0 < x → Put (ascii " ") at o r o′ → Put (gap x) at o r o′
+put-gap x h p = rw (ne-eqb x 0 (λ e. omega arith)) p
+
+-- one sample more of a row
+pub put-sample : {o o₁ o₂ o₃ : List ℕ} {at r₁ r₂ r₃ : ℕ} (row : List ℕ) (x : ℕ) → Put (samplesText row x) at o r₁ o₁ → Put (gap x) r₁ o₁ r₂ o₂
+    → Put (decimal (getD row x 0)) r₂ o₂ r₃ o₃ → Put (samplesText row (x + 1)) at o r₃ o₃
+unfolding samplesText
+put-sample row x p g n = rw add-one (put-both p (put-both g n))
+
+-- ---- parts
+
+pub shown-none : (p : Progress) (o : List ℕ) → Shown ([], p .next) (p .at) o p o
+shown-none p o = record { next-is = refl; put = put-none (p .at) o }
+
+pub shown-also : {p : Part} {o o₁ o₂ : List ℕ} {at : ℕ} {r₁ r₂ : Progress} (f : ℕ → Part)
+    → Shown p at o r₁ o₁ → Shown (f (r₁ .next)) (r₁ .at) o₁ r₂ o₂ → Shown (also p f) at o r₂ o₂
+shown-also f a b =
+    let c = rw (a .next-is) at b in
+    record { next-is = c .next-is; put = put-both (a .put) (c .put) }
+
+-- a row, where there are so many samples
+pub row-shown : {o o′ : List ℕ} {at r : ℕ} (samples : List ℕ) (width next : ℕ) → leb (next + width) (length samples) ≡ true
+    → Put (rowText (take width (drop next samples))) at o r o′ → Shown (nextRow samples width next) at o (record { at = r; next = next + width }) o′
+row-shown samples width next h p = rw h (record { next-is = refl; put = p })
+
+pub row-left : (samples : List ℕ) (width : ℕ) (p : Progress) (o : List ℕ) → leb (p .next + width) (length samples) ≡ false
+    → Shown (nextRow samples width (p .next)) (p .at) o p o
+row-left samples width p o h = rw h (shown-none p o)
+
+-- one row more
+pub shown-row : {o o₁ o₂ : List ℕ} {at : ℕ} {r₁ r₂ : Progress} (samples : List ℕ) (width next y : ℕ) → Shown (rows samples width next y) at o r₁ o₁
+    → Shown (nextRow samples width (r₁ .next)) (r₁ .at) o₁ r₂ o₂ → Shown (rows samples width next (y + 1)) at o r₂ o₂
+unfolding rows
+shown-row samples width next y a b = rw add-one (shown-also (nextRow samples width) a b)
+
+module _ (p : Page) (samples : List ℕ) where
+  -- a component that the page has not
+  pub no-component : (i : ℕ) (q : Progress) (o : List ℕ) → p .components ≤ i → Shown (component p samples i (q .next)) (q .at) o q o
+  no-component i q o h = rw (le-ltb i (p .components) h) (shown-none q o)
+
+  -- one that it has: its heading and its rows
+  pub one-component : {o o₁ o₂ : List ℕ} {at r : ℕ} {q : Progress} (i next : ℕ) → i < p .components → Put (heading p i) at o r o₁
+      → Shown (rows samples (widthOf p i) next (heightOf p i)) r o₁ q o₂ → Shown (component p samples i next) at o q o₂
+  one-component {o} {o₁} {at = at} {r} i next h a b =
+      let top : Shown (heading p i, next) at o (record { at = r; next = next }) o₁ = record { next-is = refl; put = a } in
+      rw (lt-ltb i (p .components) h) (shown-also (λ n. rows samples (widthOf p i) n (heightOf p i)) top b)
+
+  -- one component more
+  pub shown-component : {o o₁ o₂ : List ℕ} {at : ℕ} {r₁ r₂ : Progress} (i : ℕ) → Shown (components p samples i) at o r₁ o₁
+      → Shown (component p samples i (r₁ .next)) (r₁ .at) o₁ r₂ o₂ → Shown (components p samples (i + 1)) at o r₂ o₂
+  unfolding components
+  shown-component i a b = rw add-one (shown-also (component p samples i) a b)
+
+-- ---- from the beginning
+
+-- where the buffer is full nothing changes
+puts-full : (t : List ℕ) (at : ℕ) (o : List ℕ) → length o ≤ at → puts t (at, o) ≡ (at, o)
+unfolding puts
+puts-full [] at o h = refl
+puts-full (b ∷ t) at o h =
+    ap (puts t) (λ i. (cond (le-ltb at (length o) h i) (at + 1) at, set-out o at b h i))
+    ∙ puts-full t at o h
+
+puts-one : (b x : ℕ) (a o : List ℕ) → putByte b (length a, a ++ x ∷ o) ≡ (length (a ++ (b ∷ [])), (a ++ (b ∷ [])) ++ o)
+puts-one b x a o =
+    let n : length (a ++ x ∷ o) ≡ length a + suc (length o) = length-append a (x ∷ o) in
+    let m : length (a ++ (b ∷ [])) ≡ length a + 1 = length-append a (b ∷ []) in
+    λ i. (
+      ((λ j. cond (lt-ltb (length a) (length (a ++ x ∷ o)) (omega arith) j) (length a + 1) (length a)) ∙ sym m) i,
+      (set-append-seam a x o b ∙ sym (append-assoc a (b ∷ []) o)) i,
+    )
+
+puts-behind : (t a o : List ℕ) → puts t (length a, a ++ o) ≡ (length a + min (length t) (length o), a ++ (take (length o) t ++ drop (length t) o))
+unfolding puts
+puts-behind [] a o =
+    let z : length a ≡ length a + min 0 (length o) = omega (arith, zero-min (length o)) in
+    λ i. (z i, a ++ (sym (take-nil {A = ℕ} (length o)) i ++ o))
+puts-behind (b ∷ t) a [] =
+    let z : length a ≡ length a + min (suc (length t)) 0 = omega (arith, min-zero (suc (length t))) in
+    puts-full (b ∷ t) (length a) (a ++ []) (omega (arith, length-append a []))
+    ∙ (λ i. (z i, a ++ []))
+puts-behind (b ∷ t) a (x ∷ o) =
+    let n : length (a ++ (b ∷ [])) + min (length t) (length o) ≡ length a + min (suc (length t)) (suc (length o)) =
+    omega (arith, length-append a (b ∷ []), suc-min-suc (length t) (length o))
+    in
+    ap (puts t) (puts-one b x a o)
+    ∙ puts-behind t (a ++ (b ∷ [])) o
+    ∙ (λ i. (n i, append-assoc a (b ∷ []) (take (length o) t ++ drop (length t) o) i))
+
+pub put-first : {t o o′ : List ℕ} {r : ℕ} → Put t 0 o r o′
+    → (r ≤ length o′) × (r ≡ min (length t) (length o)) × (o′ ≡ take (length o) t ++ drop (length t) o)
+put-first {t} {o} {r = r} p =
+    let e = p .state ∙ puts-behind t [] o in
+    let count : r ≡ min (length t) (length o) = (λ i. e i .0) ∙ omega arith in
+    (omega (arith, min-le-right (length t) (length o), put-length p), count, λ i. e i .1)

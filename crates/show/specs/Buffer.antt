@@ -1,0 +1,35 @@
+-- A text goes into a buffer byte by byte, as far as there is room.
+use mathlib.Core.Bool.{cond}
+use mathlib.Core.List.{List, [], _∷_, _++_}
+use mathlib.Core.Path.{_≡_}
+use Prim.Native.Nat.{ℕ, _+_, _≤_, min}
+use lib.Dec.{ltb}
+use lib.ListN.{length, set, take, drop}
+use Rattle.show.specs.Text.{Part, pageText}
+use Rattle.show.specs.declared.Progress.{Progress}
+use Rattle.reader.specs.declared.page.Page.{Page}
+
+-- the next free place, and the buffer
+abbrev pub State : Type 0
+State = ℕ × List ℕ
+
+abbrev pub putByte : ℕ → State → State
+putByte b s = (cond (ltb (s .0) (length (s .1))) (s .0 + 1) (s .0), set (s .1) (s .0) b)
+
+unfoldable pub puts : List ℕ → State → State
+puts [] s = s
+puts (b ∷ t) s = puts t (putByte b s)
+
+-- `text` is put into the buffer `o` from `at` on: the place behind it is r, and the buffer is then o′
+pub record Put (text : List ℕ) (at : ℕ) (o : List ℕ) (r : ℕ) (o′ : List ℕ) : Type 0 where
+  pub state : _≡_ {A = State} (r, o′) (puts text (at, o))
+
+-- the same of a part that uses up samples
+pub record Shown (part : Part) (at : ℕ) (o : List ℕ) (r : Progress) (o′ : List ℕ) : Type 0 where
+  pub next-is : r .next ≡ part .1
+  pub put : Put (part .0) at o (r .at) o′
+
+-- the whole text at the buffer's beginning: r bytes of it, as many as there is room for, and the rest of the buffer as it was
+pub record PageText (p : Page) (samples o : List ℕ) (r : ℕ) (o′ : List ℕ) : Type 0 where
+  pub count : r ≡ min (length (pageText p samples)) (length o)
+  pub text : o′ ≡ take (length o) (pageText p samples) ++ drop (length (pageText p samples)) o

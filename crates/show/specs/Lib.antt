@@ -1,0 +1,3 @@
+-- The text of a page, and how it goes into a lent buffer.
+pub mod Text
+pub mod Buffer
