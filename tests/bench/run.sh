@@ -3,9 +3,10 @@
 # and prints a table. Usage: run.sh FOLDER [READINGS [SIDE...]], where tests/build.sh has put its programs. On Arm both run in one emulator: only the ratio says
 # something there.
 set -eu
-bin=$(realpath "${1:?"usage: run.sh FOLDER [READINGS]"}")
-readings=${2:-5}
-[ $# -lt 2 ] || shift 2
+bin=$(realpath "${1:?"usage: run.sh FOLDER [READINGS [SIDE...]]"}")
+shift
+readings=${1:-5}
+[ $# -eq 0 ] || shift
 sides=${*:-1000 2000 4000}
 cd "$(dirname "$0")/../.."
 . examples/x86.sh
