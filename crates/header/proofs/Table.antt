@@ -2,7 +2,8 @@
 use Prim.Native.Nat.{ℕ, zero, suc, _+_, _<_}
 use mathlib.Core.Bool.{Bool, true, false, cond}
 use mathlib.Core.List.{List, [], _++_}
-use mathlib.Core.Path.{_≡_, refl, sym, _∙_}
+use mathlib.Core.Path.{_≡_, refl, sym, ap, _∙_}
+use native.Mathlib.Nat.{suc-add}
 use native.Mathlib.Omega.{arith}
 use lib.ListN.{length}
 use Rattle.loops.specs.Run.{go, stop, until, then as next}
@@ -73,13 +74,15 @@ module _ (s : List ℕ) (h : Picture) where
   step-verdict w = judged-verdict s (segmentAt s (w .at)) (w .seen) (first (here w)) (kindOf (segmentAt s (w .at) .marker))
 
   -- what the walk has refused, or else what it comes to
-  walk-table : (dead : Walk) (fuel : ℕ) (w : Walk) → left s w < fuel → Open w → until (turn s h) dead fuel w .verdict ≡ then (w .verdict) (first (segmentsFrom s h fuel w))
+  walk-table : (dead : Walk) (fuel : ℕ) (w : Walk) → left s w < fuel → Open w
+      → until (turn s h) dead fuel w .verdict ≡ then (w .verdict) (first (segmentsFrom s h fuel w))
   unfolding until turn segmentsFrom
   walk-table dead zero w l o = absurd (omega arith)
   walk-table dead (suc fuel) w l o = pick (w .done) refl (walk-table dead fuel (step s h w))
     where
       pick : (b : Bool) → b ≡ w .done
-          → (left s (step s h w) < fuel → Open (step s h w) → until (turn s h) dead fuel (step s h w) .verdict ≡ then (step s h w .verdict) (first (segmentsFrom s h fuel (step s h w))))
+          → (left s (step s h w) < fuel → Open (step s h w)
+          → until (turn s h) dead fuel (step s h w) .verdict ≡ then (step s h w .verdict) (first (segmentsFrom s h fuel (step s h w))))
           → next (cond b (stop w) (go (step s h w))) (λ y. until (turn s h) dead fuel y) (λ r. r) .verdict
           ≡ then (w .verdict) (first (cond b [] (here w ++ segmentsFrom s h fuel (step s h w))))
       pick true d later = then-fine (w .verdict)
@@ -88,6 +91,18 @@ module _ (s : List ℕ) (h : Picture) where
           ∙ (λ i. then (step-verdict w i) (first (segmentsFrom s h fuel (step s h w))))
           ∙ sym (first-append (here w) (segmentsFrom s h fuel (step s h w)))
           ∙ (λ i. then (sym (o (sym d)) i) (first (here w ++ segmentsFrom s h fuel (step s h w))))
+
+  -- the bound on the turns is not what ends the table: no more segments stand behind it
+  pub table-whole : (more fuel : ℕ) (w : Walk) → left s w < fuel → segmentsFrom s h (fuel + more) w ≡ segmentsFrom s h fuel w
+  unfolding segmentsFrom
+  table-whole more zero w l = absurd (omega arith)
+  table-whole more (suc fuel) w l = rw suc-add (pick (w .done) refl (table-whole more fuel (step s h w)))
+    where
+      pick : (b : Bool) → b ≡ w .done
+          → (left s (step s h w) < fuel → segmentsFrom s h (fuel + more) (step s h w) ≡ segmentsFrom s h fuel (step s h w))
+          → cond b [] (here w ++ segmentsFrom s h (fuel + more) (step s h w)) ≡ cond b [] (here w ++ segmentsFrom s h fuel (step s h w))
+      pick true d later = refl
+      pick false d later = ap (λ (t : List Check). here w ++ t) (later (omega (arith, step-falls s h w (sym d))))
 
 -- ---- the whole
 

@@ -13,8 +13,8 @@ use Rattle.segments.specs.Segments.{segmentChecks}
 use Rattle.header.specs.Walk.{step, begun}
 use Rattle.header.specs.declared.walk.Walk.{Walk}
 
--- the segment at hand, and the segments behind it. A walk that has ended, at the first slice marker or a refused segment, comes to no other; `fuel` bounds
--- the turns, as it does the walk's
+-- the segment at hand, and the segments behind it. A walk that has ended, at the first slice marker or a refused segment, comes to no other. `fuel`
+-- bounds the turns as it does the walk's, and no table comes so far
 unfoldable pub segmentsFrom : List ℕ → Picture → ℕ → Walk → List Check
 segmentsFrom s h zero w = []
 segmentsFrom s h (suc fuel) w = cond (w .done) [] (segmentChecks s h (w .seen) (segmentAt s (w .at)) ++ segmentsFrom s h fuel (step s h w))

@@ -15,9 +15,12 @@ module _ (s : List ℕ) (c : Setting) (p : Precinct) (slot at : ℕ) where
   -- the values, behind the counts
   abbrev pub valuesAfter : List ℤ → Next × List ℤ
   valuesAfter cells =
-      packetValues c p slot (stretch s (datAt s c p slot at) (head s c p slot at .ldat)) (stretch s (sgnAt s c p slot at) (Lsign s c p slot at)) (countsOf s c p slot at cells .1)
+      packetValues c p slot
+      (stretch s (datAt s c p slot at) (head s c p slot at .ldat))
+      (stretch s (sgnAt s c p slot at) (Lsign s c p slot at))
+      (countsOf s c p slot at cells .1)
 
-  -- the header as far as the counts' length, the counts, the data, the signs. `raws` are the raw flags of the earlier slots, `cells` the cells as they leave them
+  -- the header as far as the counts' length, the counts, the data, the signs. `raws` are the raw flags of the earlier slots, `cells` what they leave
   unfoldable pub packetChecks : List ℕ → List ℤ → List Check
   packetChecks raws cells =
       headChecks s c p slot at raws

@@ -91,10 +91,11 @@ held (c ∷ cs) e =
 abbrev pub Unbroken : List Check → Type 0
 Unbroken t = (c : Check) → List·Memᴰ c t → broken c ≡ false
 
--- such is a table exactly where nothing is refused
+-- so it is exactly where nothing is refused
 pub fine-iff : (t : List Check) → (first t ≡ Fine) ↔ Unbroken t
 fine-iff [] = (λ e c m. absurd (List·Memᴰ·not-nil m), λ u. refl)
-fine-iff (d ∷ ds) = (λ e. pick (broken d) refl e (fine-iff ds .0), λ u. rw (u d (List·Memᴰ·head refl)) (fine-iff ds .1 (λ c m. u c (List·Memᴰ·tail m))))
+fine-iff (d ∷ ds) =
+    (λ e. pick (broken d) refl e (fine-iff ds .0), λ u. rw (u d (List·Memᴰ·head refl)) (fine-iff ds .1 (λ c m. u c (List·Memᴰ·tail m))))
   where
     pick : (b : Bool) → b ≡ broken d → cond b (Refused d) (first ds) ≡ Fine → (first ds ≡ Fine → Unbroken ds) → Unbroken (d ∷ ds)
     pick true p e later = refused-fine e
@@ -134,7 +135,7 @@ first-broken (d ∷ ds) c e = pick (broken d) refl (first-broken ds c)
         let l = later (rw (← p) at e) in
         record { before = d ∷ (l .before); after = l .after; stands = (λ i. d ∷ l .stands i); earlier = (held (d ∷ []) (rw (← p)) .0, l .earlier); breaks = l .breaks }
 
--- and nothing else does: a table refuses by exactly that check
+-- and a table of which that holds refuses by that check
 pub first-breaks : (t : List Check) (c : Check) → (first t ≡ Refused c) ↔ FirstBroken t c
 first-breaks t c = (first-broken t c, back)
   where
