@@ -16,7 +16,8 @@ use Rattle.rows.specs.declared.Verdict.the-variants.{Fine}
 use Rattle.rows.proofs.Tables.{append-fine, each-fine, held}
 use Rattle.picture.specs.Picture.{Built}
 use Rattle.picture.specs.declared.picture.Picture.{Picture}
-use Rattle.segments.specs.Bands.{samples, levelsDown, bands, existing}
+use Rattle.layout.specs.Bands.{samples-of, levels-of}
+use Rattle.segments.specs.Bands.{bands, existing}
 use Rattle.segments.specs.Components.{sxAt, componentAt, widest, depthChecks, levelChecks, filterChecks, columnUnit, lastColumn, sxChecks, acrossChecks, syChecks, downChecks, componentChecks, componentRow, componentsChecks}
 use Rattle.segments.specs.Weights.{bandIn, bandsIn, gainAt, gainRow, gainChecks}
 use Rattle.segments.specs.declared.components.Component.{Component}
@@ -31,13 +32,13 @@ module _ (h : Picture) (p c m : ℕ) (k : Component) (e : first (componentChecks
   place = p + 5 + 2 * c
 
   abbrev wide : ℕ
-  wide = samples (h .wf) (k .sx)
+  wide = samples-of (h .wf) (k .sx)
 
   abbrev high : ℕ
-  high = samples (h .hf) (k .sy)
+  high = samples-of (h .hf) (k .sy)
 
   abbrev levels : ℕ
-  levels = levelsDown (h .nly) (k .sy)
+  levels = levels-of (h .nly) (k .sy)
 
   component-parts : (first (depthChecks h (p + 4 + 2 * c) k) ≡ Fine) × (first (acrossChecks h place c m k) ≡ Fine) × (first (downChecks h place k) ≡ Fine)
   component-parts =

@@ -8,7 +8,7 @@ use Rattle.bits.specs.Fields.{fieldAt}
 use Rattle.picture.specs.Markers.{SLH}
 use Rattle.picture.specs.Picture.{Built}
 use Rattle.picture.specs.declared.picture.Picture.{Picture}
-use Rattle.segments.specs.Bands.{samples, levelsDown}
+use Rattle.layout.specs.Bands.{samples-of, levels-of}
 use Rattle.segments.specs.Components.{columnUnit, lastColumn}
 use Rattle.header.specs.declared.header.Header.{Header}
 
@@ -29,8 +29,8 @@ pub record Sampled (h : Picture) (B x y : ℕ) : Type 0 where
   -- B.2: no fewer levels down than none
   pub levels : y ≤ 2 ^ h .nly
   -- two samples to each filter
-  pub across : (d : ℕ) → d < h .nlx → 2 ≤ ceilDiv (samples (h .wf) x) (2 ^ d)
-  pub down : (d : ℕ) → d < levelsDown (h .nly) y → 2 ≤ ceilDiv (samples (h .hf) y) (2 ^ d)
+  pub across : (d : ℕ) → d < h .nlx → 2 ≤ ceilDiv (samples-of (h .wf) x) (2 ^ d)
+  pub down : (d : ℕ) → d < levels-of (h .nly) y → 2 ≤ ceilDiv (samples-of (h .hf) y) (2 ^ d)
 
 pub record Ranges (h : Header) : Type 0 where
   pub built : Built (h .picture)

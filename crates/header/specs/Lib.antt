@@ -1,3 +1,4 @@
 pub mod Walk
 pub mod Header
 pub mod Accepted
+pub mod Table

@@ -16,23 +16,31 @@ sx s i = getD (s .sx) i 0
 abbrev pub sy : Shape → ℕ → ℕ
 sy s i = getD (s .sy) i 0
 
--- B.1: the samples in a row, and in a column, of component i
+-- B.1: the samples that a component has of so many points, by its sampling factor
+abbrev pub samples-of : ℕ → ℕ → ℕ
+samples-of points factor = ceilDiv points factor
+
+-- in a row, and in a column, of component i
 unfoldable pub Wc : Shape → ℕ → ℕ
-Wc s i = ceilDiv (s .wf) (sx s i)
+Wc s i = samples-of (s .wf) (sx s i)
 
 unfoldable pub Hc : Shape → ℕ → ℕ
-Hc s i = ceilDiv (s .hf) (sy s i)
+Hc s i = samples-of (s .hf) (sy s i)
 
 -- the logarithm of a sampling factor, which is 1 or 2
 abbrev pub log2 : ℕ → ℕ
 log2 n = n / 2
 
--- B.2: the levels of component i, across and down
+-- B.2: the levels down, N′_L,y = N_L,y − log2 s_y
+abbrev pub levels-of : ℕ → ℕ → ℕ
+levels-of NLy sy = NLy - log2 sy
+
+-- the levels of component i, across and down
 abbrev pub N′x : Shape → ℕ → ℕ
 N′x s i = s .nlx
 
 abbrev pub N′y : Shape → ℕ → ℕ
-N′y s i = s .nly - log2 (sy s i)
+N′y s i = levels-of (s .nly) (sy s i)
 
 -- ---- B.3, over N_L,x and N_L,y, where N_L,x ≥ N_L,y
 
@@ -100,9 +108,13 @@ NL s = s .nc * Nβ s
 abbrev pub band : Shape → ℕ → ℕ → ℕ
 band s β i = s .nc * β + i
 
--- B.4: bx[β,i], with dy[β] and not dy[β,i]; and b′x[b]
+-- B.4: a band exists where the first line of its filter type, which B.6 calls L0, is one of the component's
+abbrev pub has-first-line : ℕ → ℕ → ℕ → ℕ → Bool
+has-first-line NLy sy dy τy = eqb (2 ^ (NLy - dy) * τy % sy) 0
+
+-- bx[β,i], with dy[β] and not dy[β,i]; and b′x[b]
 unfoldable pub exists : Shape → ℕ → ℕ → Bool
-exists s β i = eqb (2 ^ (s .nly - dy s β) * τy (kind s β) % sy s i) 0
+exists s β i = has-first-line (s .nly) (sy s i) (dy s β) (τy (kind s β))
 
 abbrev pub band-exists : Shape → ℕ → Bool
 band-exists s b = exists s (b / s .nc) (b % s .nc)

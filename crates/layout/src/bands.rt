@@ -4,9 +4,8 @@ use crate::numbers::ceil_div;
 use crate::numbers::power;
 use crate::numbers::smaller;
 ghost use mathlib.Core.Path.{_≡_};
-ghost use Prim.Native.Nat.{_-_, _*_, _%_, _^_, _<_, _≤_};
-ghost use lib.Dec.{eqb};
-ghost use Rattle.layout.specs.Bands.{filters, Nβ, exists};
+ghost use Prim.Native.Nat.{_<_, _≤_};
+ghost use Rattle.layout.specs.Bands.{filters, Nβ, has-first-line};
 ghost use Rattle.layout.specs.Built.{Built};
 ghost use Rattle.layout.specs.Sizes.{filter-of, IsComponent, IsBand};
 
@@ -86,7 +85,7 @@ pub fn component_of(s: Shape, i: usize) -> Component
 // B.4, at dy[β] of all components and not at the component's own.
 fn first_line_divides(f: Filter, nly: usize, sy: usize) -> bool
     requires { ⌜ (nly ≤ 2) × (f .dy ≤ nly) × (f .ty ≤ 1) × (0 < sy) ⌝ }
-    ensures { λ r. ⌜ r ≡ eqb (2 ^ (nly - f .dy) * f .ty % sy) 0 ⌝ }
+    ensures { λ r. ⌜ r ≡ has-first-line nly sy (f .dy) (f .ty) ⌝ }
 {
     let d = nly - f.dy;
     power(d) * f.ty % sy == 0

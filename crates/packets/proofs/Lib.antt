@@ -7,3 +7,4 @@ pub mod Laws
 pub mod Coefficients
 pub mod Truncations
 pub mod Examples
+pub mod Table

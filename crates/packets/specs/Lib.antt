@@ -4,3 +4,4 @@ pub mod Ready
 pub mod Passes
 pub mod Packets
 pub mod Steps
+pub mod Table

@@ -1,12 +1,13 @@
 -- Laws of tables: how they join, and what one says of which no check is broken. Assumes nothing.
 use Prim.Native.Nat.{ℕ, zero, suc, _+_, _≤_, _<_}
 use mathlib.Core.Bool.{Bool, true, false, _||_, cond}
-use mathlib.Core.List.{List, [], _∷_, _++_}
-use mathlib.Core.Path.{_≡_, refl, sym, _∙_}
+use mathlib.Core.List.{List, [], _∷_, _++_, List·Memᴰ, List·Memᴰ·head, List·Memᴰ·tail, List·Memᴰ·cases-cons, List·Memᴰ·not-nil}
+use mathlib.Core.Logic.{_↔_, _⊎_, inl, inr}
+use mathlib.Core.Path.{_≡_, refl, sym, ap, _∙_}
 use native.Mathlib.Decide.{decLt}
 use native.Mathlib.Numerals.{add-one}
 use native.Mathlib.Omega.{arith}
-use borrow.Author.Tests.{ltb-false}
+use borrow.Author.Tests.{ltb-false, le-ltb}
 use lib.Dec.{ltb}
 use Rattle.rows.specs.Rows.{broken, first, then, each}
 use Rattle.rows.specs.declared.Check.{Check}
@@ -26,6 +27,10 @@ first-append (c ∷ xs) ys = pick-then (broken c) c (first (xs ++ ys)) (first xs
 -- the verdict of two tables, from the verdict of each
 pub joined : (xs ys : List Check) {v w r : Verdict} → r ≡ then v w → v ≡ first xs → w ≡ first ys → r ≡ first (xs ++ ys)
 joined xs ys e p q = e ∙ (λ i. then (p i) (q i)) ∙ sym (first-append xs ys)
+
+-- behind a table that refuses nothing the next decides
+pub fine-passes : (xs ys : List Check) → first xs ≡ Fine → first (xs ++ ys) ≡ first ys
+fine-passes xs ys e = first-append xs ys ∙ (λ i. then (e i) (first ys))
 
 -- one table more of an index
 pub each-none : (f : ℕ → List Check) → Fine ≡ first (each 0 f)
@@ -82,6 +87,32 @@ held (c ∷ cs) e =
     let both = within c _ _ refl refl (first cs) e in
     (both .0, held cs (both .1))
 
+-- no check of a table is broken
+abbrev pub Unbroken : List Check → Type 0
+Unbroken t = (c : Check) → List·Memᴰ c t → broken c ≡ false
+
+-- so it is exactly where nothing is refused
+pub fine-iff : (t : List Check) → (first t ≡ Fine) ↔ Unbroken t
+fine-iff [] = (λ e c m. absurd (List·Memᴰ·not-nil m), λ u. refl)
+fine-iff (d ∷ ds) =
+    (λ e. pick (broken d) refl e (fine-iff ds .0), λ u. rw (u d (List·Memᴰ·head refl)) (fine-iff ds .1 (λ c m. u c (List·Memᴰ·tail m))))
+  where
+    pick : (b : Bool) → b ≡ broken d → cond b (Refused d) (first ds) ≡ Fine → (first ds ≡ Fine → Unbroken ds) → Unbroken (d ∷ ds)
+    pick true p e later = refused-fine e
+    pick false p e later = λ c m. by c (List·Memᴰ·cases-cons m)
+      where
+        by : (c : Check) → (c ≡ d) ⊎ List·Memᴰ c ds → broken c ≡ false
+        by c (inl q) = ap broken q ∙ sym p
+        by c (inr m) = later e c m
+
+held-fine : (t : List Check) → Held t → first t ≡ Fine
+held-fine [] h = refl
+held-fine (c ∷ cs) h = rw (le-ltb (c .3) (c .4) (h .0 .least), le-ltb (c .5) (c .3) (h .0 .most)) (held-fine cs (h .1))
+
+-- the same by the numbers
+pub held-iff : (t : List Check) → Held t ↔ Unbroken t
+held-iff t = (λ h. fine-iff t .0 (held-fine t h), λ u. held t (fine-iff t .1 u))
+
 -- ---- something is broken
 
 -- what a table's refusal says: the check stands there, it is broken, and each before it holds
@@ -103,3 +134,12 @@ first-broken (d ∷ ds) c e = pick (broken d) refl (first-broken ds c)
     pick false p later =
         let l = later (rw (← p) at e) in
         record { before = d ∷ (l .before); after = l .after; stands = (λ i. d ∷ l .stands i); earlier = (held (d ∷ []) (rw (← p)) .0, l .earlier); breaks = l .breaks }
+
+-- and a table of which that holds refuses by that check
+pub first-breaks : (t : List Check) (c : Check) → (first t ≡ Refused c) ↔ FirstBroken t c
+first-breaks t c = (first-broken t c, back)
+  where
+    back : FirstBroken t c → first t ≡ Refused c
+    back f =
+        let here : first (c ∷ f .after) ≡ Refused c = rw (f .breaks) in
+        ap first (f .stands) ∙ first-append (f .before) (c ∷ f .after) ∙ (λ i. then (held-fine (f .before) (f .earlier) i) (here i))

@@ -13,7 +13,7 @@ use Rattle.rows.specs.declared.Field.the-variants.{Cw, B, Sx, Sy}
 use Rattle.rows.specs.declared.Row.the-variants.{Value, Lacking}
 use Rattle.picture.specs.Picture.{bitsAt}
 use Rattle.picture.specs.declared.picture.Picture.{Picture}
-use Rattle.segments.specs.Bands.{samples, levelsDown}
+use Rattle.layout.specs.Bands.{samples-of, levels-of}
 use Rattle.segments.specs.declared.components.Component.{Component}
 
 -- Table A.15
@@ -73,7 +73,7 @@ sxChecks h place c m k =
     ∷ []
 
 abbrev pub acrossChecks : Picture → ℕ → ℕ → ℕ → Component → List Check
-acrossChecks h place c m k = sxChecks h place c m k ++ filterChecks Sx place (samples (h .wf) (k .sx)) (h .nlx)
+acrossChecks h place c m k = sxChecks h place c m k ++ filterChecks Sx place (samples-of (h .wf) (k .sx)) (h .nlx)
 
 -- Table A.15: sy is from 1 to sx. B.2: no component has fewer than no levels down
 abbrev pub syChecks : Picture → ℕ → Component → List Check
@@ -84,7 +84,7 @@ syChecks h place k =
     ∷ []
 
 abbrev pub downChecks : Picture → ℕ → Component → List Check
-downChecks h place k = syChecks h place k ++ filterChecks Sy place (samples (h .hf) (k .sy)) (levelsDown (h .nly) (k .sy))
+downChecks h place k = syChecks h place k ++ filterChecks Sy place (samples-of (h .hf) (k .sy)) (levels-of (h .nly) (k .sy))
 
 -- one component: sx and sy share a byte and so a place
 abbrev pub componentChecks : Picture → ℕ → ℕ → ℕ → Component → List Check

@@ -4,3 +4,4 @@ pub mod Slice
 pub mod Stream
 pub mod Reached
 pub mod Steps
+pub mod Table

@@ -1,9 +1,8 @@
 -- `segments::bands::exists`: low-pass down, or high-pass down with its first line in the component. Assumes nothing.
 use Prim.Native.Nat.{_%_}
 use mathlib.Core.Path.{sym, _∙_}
-use borrow.Author.Tests.{le-leb, lt-leb}
 use lib.Dec.{eqb}
-use Rattle.segments.proofs.BandLaws.{exists-low, exists-high}
+use Rattle.segments.proofs.BandLaws.{exists-first, exists-later, exists-high}
 use borrow.Author.Needs.{needs}
 use Rattle.segments.proofs.bands.exists.Statement.{statement}
 use Rattle.segments.proofs.bands.exists.Tie as tie
@@ -11,12 +10,13 @@ use Rattle.segments.proofs.bands.exists.Tie as tie
 returns : tie.Need-returns
 returns c =
     let a = c .before .args in
-    sym (exists-low (a .nlx) (a .nly) (a .sy) (a .beta) (rw (le-leb _ _ (c .if1 .taken))))
+    sym (exists-first (a .nlx) (a .nly) (a .sy) (a .beta) (c .before .pre .0) (c .if1 .taken))
 
 returns-2 : tie.Need-returns-2
 returns-2 c =
     let a = c .before .before .args in
-    sym (exists-low (a .nlx) (a .nly) (a .sy) (a .beta) (rw (lt-leb _ _ (c .before .if1 .left), c .if2 .taken)))
+    let p = c .before .before .pre in
+    sym (exists-later (a .nlx) (a .nly) (a .sy) (a .beta) (p .0) (p .2) (c .before .if1 .left) (c .if2 .taken))
 
 returns-3 : tie.Need-returns-3
 returns-3 c =

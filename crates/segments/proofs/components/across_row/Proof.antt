@@ -4,7 +4,7 @@ use native.Mathlib.Omega.{arith}
 use Rattle.rows.specs.Rows.{first}
 use Rattle.rows.specs.declared.Field.the-variants.{Sx}
 use Rattle.rows.proofs.Tables.{joined}
-use Rattle.segments.specs.Bands.{samples}
+use Rattle.layout.specs.Bands.{samples-of}
 use Rattle.segments.specs.Components.{filterChecks, sxChecks}
 use Rattle.segments.proofs.NumberLaws.{ceil-le}
 use borrow.Author.Needs.{needs}
@@ -20,7 +20,7 @@ returns : tie.Need-returns
 returns c =
     let a = c .before .before .before .before .args in
     let f = c .before .filter-row .ensures ∙ (λ i. first (filterChecks Sx (a .place) (c .before .before .before .ceil .ensures i) (a .h .nlx))) in
-    joined (sxChecks (a .h) (a .place) (a .c) (a .m) (a .k)) (filterChecks Sx (a .place) (samples (a .h .wf) (a .k .sx)) (a .h .nlx)) (c .then .ensures) (c .before .before .sx-row .ensures) f
+    joined (sxChecks (a .h) (a .place) (a .c) (a .m) (a .k)) (filterChecks Sx (a .place) (samples-of (a .h .wf) (a .k .sx)) (a .h .nlx)) (c .then .ensures) (c .before .before .sx-row .ensures) f
 
 pub across-row-spec : {M : Type 1} → statement M
 across-row-spec =

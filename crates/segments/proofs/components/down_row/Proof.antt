@@ -4,7 +4,7 @@ use native.Mathlib.Omega.{arith}
 use Rattle.rows.specs.Rows.{first}
 use Rattle.rows.specs.declared.Field.the-variants.{Sy}
 use Rattle.rows.proofs.Tables.{joined}
-use Rattle.segments.specs.Bands.{samples, levelsDown}
+use Rattle.layout.specs.Bands.{samples-of, levels-of}
 use Rattle.segments.specs.Components.{filterChecks, syChecks}
 use Rattle.segments.proofs.NumberLaws.{ceil-le}
 use borrow.Author.Needs.{needs}
@@ -20,7 +20,7 @@ returns : tie.Need-returns
 returns c =
     let a = c .before .before .before .before .before .before .args in
     let f = c .before .filter-row .ensures ∙ (λ i. first (filterChecks Sy (a .place) (c .before .before .before .before .before .ceil .ensures i) (c .before .before .before .less .ensures i))) in
-    joined (syChecks (a .h) (a .place) (a .k)) (filterChecks Sy (a .place) (samples (a .h .hf) (a .k .sy)) (levelsDown (a .h .nly) (a .k .sy))) (c .then .ensures) (c .before .before .sy-row .ensures) f
+    joined (syChecks (a .h) (a .place) (a .k)) (filterChecks Sy (a .place) (samples-of (a .h .hf) (a .k .sy)) (levels-of (a .h .nly) (a .k .sy))) (c .then .ensures) (c .before .before .sy-row .ensures) f
 
 pub down-row-spec : {M : Type 1} → statement M
 down-row-spec =
