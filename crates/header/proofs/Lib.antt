@@ -2,3 +2,4 @@ pub mod Steps
 pub mod Whole
 pub mod Ranges
 pub mod Sound
+pub mod Sites
