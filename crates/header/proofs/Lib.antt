@@ -3,3 +3,4 @@ pub mod Whole
 pub mod Ranges
 pub mod Sound
 pub mod Table
+pub mod Sites

@@ -208,11 +208,10 @@ module _ (s : List ℕ) (h : Picture) where
       pick false d = rw (turn-on s h w (sym d)) (each w i)
 
   -- no walk comes so far that this is its end
-  never : Walk
+  abbrev pub never : Walk
   never = ended (Refused (check Marker 0 Soc 0 0 0)) 0 noneSeen
 
-  walk-keeps : (P : Walk → Type 0) → ((w : Walk) → P w → P (step s h w)) → P never → (p : ℕ) → P (begun p) → P (walk s h p) × (walk s h p .done ≡ true)
-  unfolding never
+  pub walk-keeps : (P : Walk → Type 0) → ((w : Walk) → P w → P (step s h w)) → P never → (p : ℕ) → P (begun p) → P (walk s h p) × (walk s h p .done ≡ true)
   walk-keeps P each n p i =
       subst (λ (w : Walk). P w × (w .done ≡ true)) (bound-unused never s h p)
       (until-keeps P (λ w. P w × (w .done ≡ true)) (turn s h) never (n, refl) (turn-keeps P each) (length s + 2) (begun p) i)
@@ -221,18 +220,17 @@ module _ (s : List ℕ) (h : Picture) where
   walk-done p = walk-keeps (λ w. Unit {0}) (λ w i. tt) tt p tt .1
 
   walk-sound : (p : ℕ) → Sound s h (walk s h p)
-  unfolding never
   walk-sound p =
       walk-keeps (Sound s h) (step-sound s h)
       (record { table = λ n. absurd (n refl); weights = λ n. absurd (n refl); end = λ _ e. refused-fine e }) p
       (record { table = λ n. absurd (n refl); weights = λ n. absurd (n refl); end = λ d _. clash (sym d) }) .0
 
+  -- before any segment
+  pub unseen-inside : {a : ℕ} {done : Bool} {v : Verdict} → a ≤ length s → Inside s (record { at = a; done = done; verdict = v; seen = noneSeen })
+  unseen-inside l = record { at = l; cdt = zero-le; wgt = zero-le; caption = zero-le; part = zero-le }
+
   walk-inside : (p : ℕ) → p ≤ length s → Inside s (walk s h p)
-  unfolding never
-  walk-inside p l =
-      walk-keeps (Inside s) (step-inside s h)
-      (record { at = zero-le; cdt = zero-le; wgt = zero-le; caption = zero-le; part = zero-le }) p
-      (record { at = l; cdt = zero-le; wgt = zero-le; caption = zero-le; part = zero-le }) .0
+  walk-inside p l = walk-keeps (Inside s) (step-inside s h) (unseen-inside zero-le) p (unseen-inside l) .0
 
 -- ---- the header
 

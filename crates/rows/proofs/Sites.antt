@@ -2,10 +2,9 @@
 use Prim.Native.Nat.{ℕ, zero, suc, _≤_, _<_}
 use mathlib.Core.Bool.{Bool, true, false, _||_, cond}
 use mathlib.Core.List.{List, [], _∷_, _++_}
-use mathlib.Core.Path.{_≡_, refl, sym, _∙_}
+use mathlib.Core.Path.{_≡_, refl, _∙_}
 use native.Mathlib.Omega.{arith}
 use borrow.Author.Tests.{le-ltb}
-use lib.Dec.{ltb}
 use Rattle.rows.specs.Rows.{broken, first, then, each}
 use Rattle.rows.specs.declared.Check.{Check}
 use Rattle.rows.specs.declared.Verdict.{Verdict}
@@ -47,3 +46,15 @@ pub sited-each : (n m : ℕ) (f : ℕ → List Check) → ((k : ℕ) → k < m �
 unfolding each
 sited-each n zero f h = tt
 sited-each n (suc m) f h = sited-append n (each m f) (f m) (sited-each n m f (λ k l. h k (omega arith))) (λ _. h m (omega arith))
+
+-- a table of which every check stands at most at n, held or not
+abbrev pub Standing : ℕ → List Check → Type 0
+Standing n [] = Unit {0}
+Standing n (c ∷ cs) = (c .1 ≤ n) × Standing n cs
+
+pub standing : (n : ℕ) (t : List Check) → Standing n t → Sited n t
+standing n [] h = tt
+standing n (c ∷ cs) h = (h .0, λ _. standing n cs (h .1))
+
+pub standing-then : (n : ℕ) (xs ys : List Check) → Standing n xs → Sited n ys → Sited n (xs ++ ys)
+standing-then n xs ys h k = sited-append n xs ys (standing n xs h) (λ _. k)
