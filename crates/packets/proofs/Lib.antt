@@ -4,6 +4,7 @@ pub mod Lines
 pub mod LinePasses
 pub mod Stretches
 pub mod Laws
+pub mod Sites
 pub mod Coefficients
 pub mod Truncations
 pub mod Examples

@@ -1,0 +1,57 @@
+-- Where a packet is refused: nowhere past the stream in which its precinct ends. Assumes nothing.
+use mathlib.Core.Path.{_≡_, refl}
+use mathlib.Core.List.{List, _++_}
+use Prim.Native.Nat.{ℕ, _≤_}
+use native.Mathlib.Omega.{arith}
+use lib.IntN.{ℤ}
+use Rattle.rows.specs.Rows.{first}
+use Rattle.rows.specs.declared.Verdict.{Verdict}
+use Rattle.rows.specs.declared.Verdict.the-variants.{Fine, Refused}
+use Rattle.rows.proofs.Tables.{held}
+use Rattle.rows.proofs.Sites.{Inside, Sited, sited}
+use Rattle.counts.specs.declared.Line.{Line as Counted}
+use Rattle.counts.specs.declared.Line.the-variants.{Done, Cut, High}
+use Rattle.packets.specs.declared.Setting.{Setting}
+use Rattle.packets.specs.declared.Precinct.{Precinct}
+use Rattle.packets.specs.Packets.{sgnAt, datAt, headChecks, countChecks, dataChecks, signChecks, valuesBy, afterCounts, countsBy, packet}
+use Rattle.packets.specs.Steps.{countsOf}
+use Rattle.packets.proofs.Stretches.{head-inside}
+
+-- n is the stream's length, or any other bound of the precinct's place and end
+module _ (s : List ℕ) (c : Setting) (p : Precinct) (slot at n : ℕ) (from : p .at ≤ n) (to : p .end ≤ n) where
+  -- the header, which begins in the precinct: a length that fits has the next field begin there too
+  head-sited : (raws : List ℕ) → at ≤ p .end → Sited n (headChecks s c p slot at raws)
+  head-sited raws h = (from, λ header. (omega arith, λ flag. (omega arith, λ none. (omega arith, λ sig. (omega arith, λ cnt. tt)))))
+
+  -- the signs, which are judged where nothing is refused before them
+  values-sited : (v : Verdict) (cells : List ℤ) → Inside n v → (v ≡ Fine → sgnAt s c p slot at ≤ n) → Inside n (valuesBy s c p slot at v cells .0)
+  values-sited Fine cells i k = sited n (signChecks s c p slot at _) (k refl, λ sgn. tt)
+  values-sited (Refused r) cells i k = i
+
+  -- behind the header, where the counts' stretch lies in the precinct
+  module _ (h : datAt s c p slot at ≤ p .end) where
+    counted-sited : (k : Counted) → Sited n (countChecks s c p slot at k ++ dataChecks s c p slot at k)
+    counted-sited (Done next need) = (omega arith, λ dat. (omega arith, λ full. (omega arith, λ sgn. tt)))
+    counted-sited Cut = (omega arith, λ held. tt)
+    counted-sited High = (omega arith, λ held. tt)
+
+    signs-begin : (k : Counted) → first (countChecks s c p slot at k ++ dataChecks s c p slot at k) ≡ Fine → sgnAt s c p slot at ≤ n
+    signs-begin (Done next need) e = omega (arith, held (dataChecks s c p slot at (Done next need)) e .0 .least)
+    signs-begin Cut e = absurd (omega (arith, held (countChecks s c p slot at Cut) e .0 .least))
+    signs-begin High e = absurd (omega (arith, held (countChecks s c p slot at High) e .0 .most))
+
+    after-sited : (x : Counted × List ℤ) → Inside n (afterCounts s c p slot at x .0)
+    after-sited x =
+        let t = countChecks s c p slot at (x .0) ++ dataChecks s c p slot at (x .0) in
+        values-sited (first t) (x .1) (sited n t (counted-sited (x .0))) (signs-begin (x .0))
+
+  counts-sited : (v : Verdict) (cells : List ℤ) → Inside n v → (v ≡ Fine → datAt s c p slot at ≤ p .end) → Inside n (countsBy s c p slot at v cells .0)
+  counts-sited Fine cells i h = after-sited (h refl) (countsOf s c p slot at cells)
+  counts-sited (Refused r) cells i h = i
+
+  -- a packet that begins in its precinct
+  pub packet-sited : (raws : List ℕ) (cells : List ℤ) → at ≤ p .end → Inside n (packet s c p slot at raws cells .0)
+  unfolding packet
+  packet-sited raws cells h =
+      let t = headChecks s c p slot at raws in
+      counts-sited (first t) cells (sited n t (head-sited raws h)) (head-inside s c p slot at raws h)
