@@ -12,7 +12,7 @@ use Rattle.picture.specs.Segment.{segmentAt, lengthChecks}
 use Rattle.picture.specs.declared.picture.Picture.{Picture}
 use Rattle.picture.specs.declared.segment.Segment.{Segment}
 use Rattle.picture.proofs.Sites.{length-sited, sized-sited}
-use Rattle.segments.specs.Bands.{samples, levelsDown}
+use Rattle.layout.specs.Bands.{samples-of, levels-of}
 use Rattle.segments.specs.Components.{componentAt, widest, depthChecks, levelChecks, filterChecks, sxChecks, acrossChecks, syChecks, downChecks, componentChecks, componentRow, componentsChecks}
 use Rattle.segments.specs.Segments.{kindOf, headChecks, onceChecks, seenChecks, unbuiltChecks, typeChecks, sdChecks, onlyChecks, sliceChecks, checksOf, segmentChecks}
 use Rattle.segments.specs.Weights.{bandsIn, gainRow, gainChecks}
@@ -30,9 +30,9 @@ filter-sited n f place points levels l =
 component-sited : (n : ℕ) (h : Picture) (p c m : ℕ) (k : Component) → p + 5 + 2 * c ≤ n → Sited n (componentChecks h p c m k)
 component-sited n h p c m k l =
     let place = p + 5 + 2 * c in
-    let wide = samples (h .wf) (k .sx) in
-    let high = samples (h .hf) (k .sy) in
-    let levels = levelsDown (h .nly) (k .sy) in
+    let wide = samples-of (h .wf) (k .sx) in
+    let high = samples-of (h .hf) (k .sy) in
+    let levels = levels-of (h .nly) (k .sy) in
     let down = standing-then n (syChecks h place k) (filterChecks Sy place high levels) (omega arith) (filter-sited n Sy place high levels l) in
     standing-then n (depthChecks h (p + 4 + 2 * c) k) (acrossChecks h place c m k ++ downChecks h place k) (omega arith)
     (sited-append n (acrossChecks h place c m k) (downChecks h place k)

@@ -1,0 +1,80 @@
+-- Demand 1: 'every stream, damaged or foreign, is read or refused by a number of document 01, with the place. A refused page leaves the sample buffer
+-- untouched, and the work buffer as document 01 states'. Assumes nothing.
+use mathlib.Core.Path.{_≡_, refl, sym, ap, _∙_, subst}
+use mathlib.Core.List.{List, _++_}
+use Prim.Native.Nat.{ℕ, _*_, _≤_}
+use native.Mathlib.Omega.{arith}
+use lib.IntN.{ℤ, pos}
+use lib.ListN.{length, drop, replicate}
+use Rattle.rows.specs.Rows.{answer, first, then}
+use Rattle.rows.specs.declared.Check.{Check}
+use Rattle.rows.specs.declared.Verdict.{Verdict}
+use Rattle.rows.specs.declared.Verdict.the-variants.{Fine, Refused}
+use Rattle.rows.proofs.Sites.{Inside, sited, inside-then}
+use Rattle.header.specs.Header.{readingOf}
+use Rattle.header.specs.declared.header.Header.{Header}
+use Rattle.header.proofs.Sites.{header-inside}
+use Rattle.slices.proofs.Sites.{stream-inside}
+use Rattle.reader.specs.Settings.{N, roomChecks}
+use Rattle.reader.specs.Decoding.{decoded, decodedVerdict}
+use Rattle.reader.specs.Page.{headerOf, lentVerdict, verdict, pageBy, samplesBy, workBy, Reads}
+use Rattle.reader.specs.declared.page.Page.{Page}
+use Rattle.reader.proofs.Openings.{opened}
+use Rattle.demands.specs.Stored.{setting, beginning}
+use Rattle.demands.proofs.Answers.{numbered, then-both, answer-of, accepted-page}
+
+-- ---- the statement
+
+pub record One (s a : List ℕ) (w : List ℤ) (r : Page) (a′ : List ℕ) (w′ : List ℤ) : Type 0 where
+  -- a number of document 01, 0 to 8, and a place in the stream
+  pub answer : r .answer ≤ 8
+  pub place : r .place ≤ length s
+  -- a refused page leaves every sample cell
+  pub samples : (r .answer ≡ 0 → ⊥) → a′ ≡ a
+  -- the work cells are unchanged until row 5 has passed; from then on the first 2N are 0 and the rest unchanged
+  pub work : w′ ≡ workBy (lentVerdict s (length a) (length w)) (2 * N (headerOf s)) w
+
+-- ---- the proof
+
+answer-most : (v : Verdict) → answer v ≤ 8
+answer-most Fine = omega arith
+answer-most (Refused c) = numbered (c .0) .1
+
+-- behind an accepted header every place is in the stream
+module _ (s : List ℕ) (a w : ℕ) where
+  room-inside : readingOf s .verdict ≡ Fine → Inside (length s) (first (roomChecks (headerOf s) a w))
+  room-inside e =
+      let at : headerOf s .slice ≤ length s = omega (arith, opened s e .accepted .slice) in
+      sited (length s) (roomChecks (headerOf s) a w) (at, λ _. (at, λ _. tt))
+
+  slices-inside : readingOf s .verdict ≡ Fine → Inside (length s) (decodedVerdict s (headerOf s))
+  unfolding decoded
+  slices-inside e = stream-inside s (setting s) (beginning s) (omega (arith, opened s e .accepted .slice))
+
+  verdict-inside : Inside (length s) (verdict s a w)
+  unfolding verdict lentVerdict
+  verdict-inside =
+      inside-then (length s) (then (readingOf s .verdict) (first (roomChecks (headerOf s) a w))) (decodedVerdict s (headerOf s))
+      (inside-then (length s) (readingOf s .verdict) (first (roomChecks (headerOf s) a w)) (header-inside s) room-inside)
+      (λ e. slices-inside (then-both (readingOf s .verdict) (first (roomChecks (headerOf s) a w)) e .0))
+
+-- the record's place: Lcod, which is the stream's length, or the broken check's
+page-place : (s : List ℕ) (v : Verdict) (h : Header) (d : List ℕ) → Inside (length s) v → (v ≡ Fine → h .picture .lcod ≡ length s) → pageBy v h d .place ≤ length s
+page-place s Fine h d i e = omega (arith, e refl)
+page-place s (Refused c) h d i e = i
+
+kept : (v : Verdict) (new a : List ℕ) → (answer v ≡ 0 → ⊥) → samplesBy v new a ≡ a
+kept Fine new a some = absurd (some refl)
+kept (Refused c) new a some = refl
+
+pub demand-one : {s a a′ : List ℕ} {w w′ : List ℤ} {r : Page} → Reads s a w r a′ w′ → One s a w r a′ w′
+demand-one {s} {a} {w = w} reads =
+    let v = verdict s (length a) (length w) in
+    record {
+      answer = omega (arith, answer-of reads, answer-most v);
+      place =
+          subst (λ (p : Page). p .place ≤ length s) (sym (reads .page))
+          (page-place s v (headerOf s) _ (verdict-inside s (length a) (length w)) (λ e. opened s (accepted-page s (length a) (length w) e .header) .accepted .whole));
+      samples = λ some. reads .samples ∙ kept v _ a (λ e. some (answer-of reads ∙ e));
+      work = reads .work;
+    }

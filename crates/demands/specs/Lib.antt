@@ -1,0 +1,3 @@
+-- What the customer's demands speak of.
+pub mod Stored
+pub mod Table
