@@ -8,8 +8,10 @@ use native.Mathlib.Numerals.{add-one}
 use native.Mathlib.Omega.{arith}
 use borrow.Author.Tests.{ltb-false}
 use lib.Dec.{ltb}
-use Rattle.rows.specs.Rows.{broken, first, then, each}
+use Rattle.rows.specs.Rows.{number, broken, first, then, each, answer}
 use Rattle.rows.specs.declared.Check.{Check}
+use Rattle.rows.specs.declared.Row.{Row}
+use Rattle.rows.specs.declared.Row.the-variants.{Cut, Marker, Value, Lacking, Lent, Length, Count, Mode}
 use Rattle.rows.specs.declared.Verdict.{Verdict}
 use Rattle.rows.specs.declared.Verdict.the-variants.{Fine, Refused}
 
@@ -42,9 +44,24 @@ each-more n f e p q = rw add-one (joined (each n f) (f n) e p q)
 pub refused-fine : {A : Type 0} {c : Check} → Refused c ≡ Fine → A
 refused-fine e = let z : _≡_ {A = ℕ} 0 1 = cc in absurd (omega arith)
 
-then-fine : (v w : Verdict) → then v w ≡ Fine → (v ≡ Fine) × (w ≡ Fine)
+pub then-fine : (v w : Verdict) → then v w ≡ Fine → (v ≡ Fine) × (w ≡ Fine)
 then-fine Fine w e = (refl, e)
 then-fine (Refused c) w e = refused-fine e
+
+-- the rows have the numbers 1 to 8: the answer 0 refuses nothing
+row-some : (r : Row) → 0 < number r
+row-some Cut = omega arith
+row-some Marker = omega arith
+row-some Value = omega arith
+row-some Lacking = omega arith
+row-some Lent = omega arith
+row-some Length = omega arith
+row-some Count = omega arith
+row-some Mode = omega arith
+
+pub answer-fine : (v : Verdict) → answer v ≡ 0 → v ≡ Fine
+answer-fine Fine e = refl
+answer-fine (Refused c) e = absurd (omega (arith, e, row-some (c .0)))
 
 pub append-fine : (xs ys : List Check) → first (xs ++ ys) ≡ Fine → (first xs ≡ Fine) × (first ys ≡ Fine)
 append-fine xs ys e = then-fine (first xs) (first ys) (sym (first-append xs ys) ∙ e)

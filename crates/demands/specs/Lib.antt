@@ -1,0 +1,2 @@
+-- What the customer's demands speak of.
+pub mod Stored

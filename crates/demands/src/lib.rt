@@ -1,0 +1,1 @@
+// No functions: what the reader promises, as theorems over the contract of `read`.
