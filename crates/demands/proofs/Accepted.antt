@@ -1,5 +1,5 @@
 -- A page that is read: what the answer 0 says of the stream, of the record and of the samples. Assumes nothing.
-use mathlib.Core.Path.{_≡_, sym, ap, _∙_}
+use mathlib.Core.Path.{_≡_, refl, sym, ap, _∙_}
 use mathlib.Core.List.{List, _++_}
 use Prim.Native.Nat.{ℕ, _+_, _*_, _<_}
 use native.Mathlib.Omega.{arith}
@@ -28,8 +28,8 @@ use Rattle.demands.specs.Stored.{shape}
 
 -- the record's answer is that of the verdict
 answered : (v : Verdict) (h : Header) (d : List ℕ) → pageBy v h d .answer ≡ answer v
-answered Fine h d = λ _. 0
-answered (Refused c) h d = λ _. answer (Refused c)
+answered Fine h d = refl
+answered (Refused c) h d = refl
 
 -- what stands in the record and in the samples of a page that is read
 pub record PageRead (s a′ : List ℕ) (r : Page) : Type 0 where

@@ -3,3 +3,4 @@ pub mod Accepted
 pub mod Stored
 pub mod Colours
 pub mod Three
+pub mod Exact

@@ -7,7 +7,7 @@
 -- `scaledUp s C` is ×2^Fq, and `samplesFrom` Annex E, F.3 where Cpih is 1, and G.3: the definition by which `read`'s own samples are given.
 -- `r .distance` is the record's distance, document 01's rule (`distancesFrom`), and `Near e m n` says that m and n differ by at most e.
 -- `Inside (shape s) i x y` is column x and row y of component i, whose samples begin behind `samples (shape s) i` others. Assumes nothing.
-use mathlib.Core.Path.{_≡_}
+use mathlib.Core.Path.{_≡_, refl}
 use mathlib.Core.List.{List}
 use Prim.Native.Nat.{ℕ, _+_, _*_, _<_}
 use native.Mathlib.Omega.{arith}
@@ -51,7 +51,8 @@ module _ {s : List ℕ} (o : Opened s (headerOf s)) (fine : decodedVerdict s (he
       let U = getD (tops s (headerOf s)) (band (shape s) (β s i k dx dy x y) i) 0 in
       rw (q .gives i h k dx dy x y d .is)
       (within-swap
-      (band-within (setting s .uniform) M T U (setting s .fq) c (indexOf (setting s .uniform) M T c) (largest-known o fine h d) (q .small i h k dx dy x y d) (λ _. indexOf (setting s .uniform) M T c)))
+      (band-within (setting s .uniform) M T U (setting s .fq) c (indexOf (setting s .uniform) M T c) (largest-known o fine h d)
+      (q .small i h k dx dy x y d) refl))
 
   -- and so is each sample, within its component's distance
   pub samples-near : (i x y : ℕ) → Inside (shape s) i x y

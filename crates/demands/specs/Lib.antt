@@ -1,2 +1,3 @@
 -- What the customer's demands speak of.
 pub mod Stored
+pub mod Uncut

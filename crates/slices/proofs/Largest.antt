@@ -29,7 +29,9 @@ module _ (s : List ℕ) (c : Setting) (b m : ℕ) where
   slice-most t from fine own h =
       rw (slice-left s c t from fine)
       (before-carries (precinctTurn s c t) (from .0 + 6, from .1, from .2) Most (Np (c .shape) t) h
-      (λ n l q. rw (slice-precinct s c t from fine n l .next) (raised-most c (sliceHas s c from t n) (NL (c .shape)) b (beforePrecinct s c from t n .1) (own n l) q)))
+      (λ n l q.
+      rw (slice-precinct s c t from fine n l .next)
+      (raised-most c (sliceHas s c from t n) (NL (c .shape)) b (beforePrecinct s c from t n .1) (own n l) q)))
 
   -- of the stream
   pub tops-most : (from : State) → stream s c from .0 ≡ Fine
