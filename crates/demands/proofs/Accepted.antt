@@ -18,7 +18,7 @@ use Rattle.planes.specs.Places.{Inside}
 use Rattle.planes.proofs.Stretches.{offset-below}
 use Rattle.planes.proofs.Planes.{planes-at}
 use Rattle.reader.specs.declared.page.Page.{Page}
-use Rattle.reader.specs.Settings.{N, roomChecks}
+use Rattle.reader.specs.Settings.{roomChecks}
 use Rattle.reader.specs.Decoding.{samplesFrom, handed, distancesFrom, decodedVerdict, tops, coefficients}
 use Rattle.reader.specs.Page.{headerOf, lentVerdict, verdict, pageBy, samplesBy, Reads}
 use Rattle.reader.specs.Steps.{Opened}

@@ -4,7 +4,7 @@ use mathlib.Core.List.{List}
 use Prim.Native.Nat.{ℕ, _+_, _*_, _≤_, _<_}
 use native.Mathlib.Omega.{arith}
 use lib.IntN.{ℤ, pos}
-use lib.ListN.{length, getD, replicate, length-replicate}
+use lib.ListN.{getD, length-replicate}
 use Rattle.whole.specs.Cells.{cell}
 use Rattle.rows.specs.declared.Verdict.the-variants.{Fine}
 use Rattle.quantiser.specs.Inverse.{coefficientOf}

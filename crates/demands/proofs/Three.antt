@@ -10,7 +10,6 @@
 use mathlib.Core.Path.{_≡_, refl}
 use mathlib.Core.List.{List}
 use Prim.Native.Nat.{ℕ, _+_, _*_, _<_}
-use native.Mathlib.Omega.{arith}
 use lib.IntN.{ℤ}
 use lib.ListN.{getD}
 use Rattle.whole.specs.Numbers.{Within, Near}
@@ -22,11 +21,10 @@ use Rattle.wavelet.specs.Transform.{Kind}
 use Rattle.wavelet.specs.Bands.{Coefficient}
 use Rattle.layout.specs.Bands.{Wc, Hc, N′x, N′y, band}
 use Rattle.layout.specs.Cells.{samples}
-use Rattle.header.specs.declared.header.Header.{Header}
 use Rattle.planes.specs.Values.{Coefficients}
 use Rattle.planes.specs.Places.{Inside}
 use Rattle.planes.proofs.Laws.{samples-of-near}
-use Rattle.distances.specs.Rule.{numberOf, componentNumber, colouredNumber, distanceOf}
+use Rattle.distances.specs.Rule.{numberOf, componentNumber, distanceOf}
 use Rattle.distances.proofs.Rules.{distance-at}
 use Rattle.reader.specs.declared.page.Page.{Page}
 use Rattle.reader.specs.Settings.{depthOf}
