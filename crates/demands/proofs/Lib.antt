@@ -1,5 +1,9 @@
--- The customer's demands.
+-- The customer's demands, and what they rest on.
 pub mod Unique
-pub mod Answers
+pub mod Accepted
 pub mod One
 pub mod Two
+pub mod Stored
+pub mod Colours
+pub mod Three
+pub mod Exact

@@ -10,6 +10,7 @@ use Rattle.rows.specs.Rows.{answer, first, then}
 use Rattle.rows.specs.declared.Check.{Check}
 use Rattle.rows.specs.declared.Verdict.{Verdict}
 use Rattle.rows.specs.declared.Verdict.the-variants.{Fine, Refused}
+use Rattle.rows.proofs.Tables.{then-fine, answer-most}
 use Rattle.rows.proofs.Sites.{Inside, sited, inside-then}
 use Rattle.header.specs.Header.{readingOf}
 use Rattle.header.specs.declared.header.Header.{Header}
@@ -21,7 +22,7 @@ use Rattle.reader.specs.Page.{headerOf, lentVerdict, verdict, pageBy, samplesBy
 use Rattle.reader.specs.declared.page.Page.{Page}
 use Rattle.reader.proofs.Openings.{opened}
 use Rattle.demands.specs.Stored.{setting, beginning}
-use Rattle.demands.proofs.Answers.{numbered, then-both, answer-of, accepted-page}
+use Rattle.demands.proofs.Accepted.{answer-of, header-fine}
 
 -- ---- the statement
 
@@ -35,10 +36,6 @@ pub record One (s a : List ℕ) (w : List ℤ) (r : Page) (a′ : List ℕ) (w�
   pub work : w′ ≡ workBy (lentVerdict s (length a) (length w)) (2 * N (headerOf s)) w
 
 -- ---- the proof
-
-answer-most : (v : Verdict) → answer v ≤ 8
-answer-most Fine = omega arith
-answer-most (Refused c) = numbered (c .0) .1
 
 -- behind an accepted header every place is in the stream
 module _ (s : List ℕ) (a w : ℕ) where
@@ -56,7 +53,7 @@ module _ (s : List ℕ) (a w : ℕ) where
   verdict-inside =
       inside-then (length s) (then (readingOf s .verdict) (first (roomChecks (headerOf s) a w))) (decodedVerdict s (headerOf s))
       (inside-then (length s) (readingOf s .verdict) (first (roomChecks (headerOf s) a w)) (header-inside s) room-inside)
-      (λ e. slices-inside (then-both (readingOf s .verdict) (first (roomChecks (headerOf s) a w)) e .0))
+      (λ e. slices-inside (then-fine (readingOf s .verdict) (first (roomChecks (headerOf s) a w)) e .0))
 
 -- the record's place: Lcod, which is the stream's length, or the broken check's
 page-place : (s : List ℕ) (v : Verdict) (h : Header) (d : List ℕ) → Inside (length s) v → (v ≡ Fine → h .picture .lcod ≡ length s) → pageBy v h d .place ≤ length s
@@ -74,7 +71,7 @@ demand-one {s} {a} {w = w} reads =
       answer = omega (arith, answer-of reads, answer-most v);
       place =
           subst (λ (p : Page). p .place ≤ length s) (sym (reads .page))
-          (page-place s v (headerOf s) _ (verdict-inside s (length a) (length w)) (λ e. opened s (accepted-page s (length a) (length w) e .header) .accepted .whole));
+          (page-place s v (headerOf s) _ (verdict-inside s (length a) (length w)) (λ e. opened s (header-fine s (length a) (length w) e) .accepted .whole));
       samples = λ some. reads .samples ∙ kept v _ a (λ e. some (answer-of reads ∙ e));
       work = reads .work;
     }

@@ -3,10 +3,9 @@
 use mathlib.Core.Path.{_≡_, refl, sym, ap, _∙_, subst}
 use mathlib.Core.List.{List, _++_}
 use mathlib.Core.Logic.{_↔_}
-use Prim.Native.Nat.{ℕ, _+_, _*_, _<_}
-use native.Mathlib.Omega.{arith}
+use Prim.Native.Nat.{ℕ, _+_, _*_}
 use lib.IntN.{ℤ}
-use lib.ListN.{length, drop, getD, List·getD-append}
+use lib.ListN.{length, getD}
 use Rattle.rows.specs.Rows.{number, answer, first, then}
 use Rattle.rows.specs.declared.Check.{Check}
 use Rattle.rows.specs.declared.Verdict.{Verdict}
@@ -14,7 +13,6 @@ use Rattle.rows.specs.declared.Verdict.the-variants.{Fine, Refused}
 use Rattle.rows.proofs.Tables.{Unbroken, FirstBroken, first-append, fine-iff, first-breaks}
 use Rattle.layout.specs.Bands.{Wc}
 use Rattle.layout.specs.Cells.{samples}
-use Rattle.layout.proofs.Cells.{starts-up}
 use Rattle.header.specs.Header.{readingOf}
 use Rattle.header.specs.Table.{headerChecks}
 use Rattle.header.proofs.Table.{one-table}
@@ -22,16 +20,13 @@ use Rattle.header.specs.declared.header.Header.{Header}
 use Rattle.slices.specs.Table.{streamChecks}
 use Rattle.slices.proofs.Table.{stream-table}
 use Rattle.planes.specs.Places.{Inside}
-use Rattle.planes.proofs.Planes.{planes-at}
-use Rattle.planes.proofs.Stretches.{offset-below}
 use Rattle.reader.specs.Settings.{roomChecks}
-use Rattle.reader.specs.Decoding.{samplesFrom, handed, decoded, decodedVerdict, coefficients}
-use Rattle.reader.specs.Page.{headerOf, lentVerdict, verdict, pageBy, samplesBy, Reads}
+use Rattle.reader.specs.Decoding.{samplesFrom, decoded, decodedVerdict, coefficients}
+use Rattle.reader.specs.Page.{headerOf, lentVerdict, verdict, pageBy, Reads}
 use Rattle.reader.specs.declared.page.Page.{Page}
-use Rattle.reader.proofs.Leaving.{handed-length}
 use Rattle.demands.specs.Stored.{shape, setting, beginning}
 use Rattle.demands.specs.Table.{tableOf}
-use Rattle.demands.proofs.Answers.{answer-of, verdict-fine}
+use Rattle.demands.proofs.Accepted.{answer-of, verdict-fine, page-read}
 
 -- ---- the verdict is that of the table
 
@@ -73,25 +68,6 @@ decided : (t : List Check) (v : Verdict) (h : Header) (d : List ℕ) → v ≡ f
 decided t Fine h d e no0 = absurd (no0 refl)
 decided t (Refused c) h d e no0 = record { check = c; first-broken = first-breaks t c .0 (sym e); answer = refl; place = refl }
 
--- a sample's place is one of the N
-place-below : (s : List ℕ) (i x y : ℕ) → Inside (shape s) i x y → samples (shape s) i + (y * Wc (shape s) i + x) < samples (shape s) (shape s .nc)
-place-below s i x y at =
-    omega (arith, offset-below (shape s) i x y (at .column) (at .row), starts-up (shape s) i (shape s .nc) (at .component))
-
--- the cell of a sample that was read
-pub sample-read : {s a a′ : List ℕ} {w w′ : List ℤ} {r : Page} → Reads s a w r a′ w′ → r .answer ≡ 0 → (i x y : ℕ) → Inside (shape s) i x y
-    → getD a′ (samples (shape s) i + (y * Wc (shape s) i + x)) 0 ≡ samplesFrom (headerOf s) (coefficients s (headerOf s)) i x y
-unfolding handed
-sample-read {s} {a} {w = w} reads e i x y at =
-    let h = headerOf s in
-    let new = handed h (coefficients s h) in
-    let k = samples (shape s) i + (y * Wc (shape s) i + x) in
-    let inside : k < length new = omega (arith, handed-length h (coefficients s h), place-below s i x y at) in
-    (λ j. getD (reads .samples j) k 0)
-    ∙ (λ j. getD (samplesBy (verdict-fine reads e j) new a) k 0)
-    ∙ List·getD-append new (drop (length new) a) 0 k inside
-    ∙ planes-at (shape s) (samplesFrom h (coefficients s h)) i x y at
-
 pub demand-two : {s a a′ : List ℕ} {w w′ : List ℤ} {r : Page} → Reads s a w r a′ w′ → Two s a w r a′
 demand-two {s} {a} {w = w} reads =
     let t = tableOf s (length a) (length w) in
@@ -100,5 +76,5 @@ demand-two {s} {a} {w = w} reads =
     record {
       accepted = (λ e. fine-iff t .0 (sym tv ∙ verdict-fine reads e), λ u. answer-of reads ∙ ap answer (tv ∙ fine-iff t .1 u));
       refused = λ some. subst (Decided t) (sym (reads .page)) (decided t v (headerOf s) _ tv (λ e. some (answer-of reads ∙ e)));
-      sample = sample-read reads;
+      sample = λ e. page-read reads e .sample;
     }

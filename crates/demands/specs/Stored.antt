@@ -14,7 +14,6 @@ use Rattle.layout.specs.declared.Shape.{Shape}
 use Rattle.layout.specs.Bands.{sx, sy, Wc, Hc, N′x, N′y, depth, dx as across, band}
 use Rattle.layout.specs.Precincts.{Cs, Npx, slice-top}
 use Rattle.counts.specs.Lines.{heldM}
-use Rattle.header.specs.declared.header.Header.{Header}
 use Rattle.shapes.specs.Shapes.{shapeOf}
 use Rattle.packets.specs.declared.Setting.{Setting}
 use Rattle.packets.specs.declared.Precinct.{Precinct}

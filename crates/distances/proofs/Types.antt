@@ -7,11 +7,14 @@ use native.Mathlib.Decide.{decLt}
 use native.Mathlib.Omega.{arith}
 use borrow.Author.Tests.{lt-ltb, le-ltb}
 use Rattle.wavelet.specs.Transform.{Kind, LL, HL, LH, HH}
-use Rattle.wavelet.specs.Bands.{τx, τy, Has}
+use Rattle.wavelet.specs.Bands.{τx, τy, Has, Coefficient}
+use Rattle.wavelet.specs.Places.{place}
 use Rattle.layout.specs.declared.Shape.{Shape}
-use Rattle.layout.specs.Bands.{N′x, N′y, Nβ, filter-type, band, kind, dx, dy, depth, exists}
+use Rattle.layout.specs.Bands.{Wc, Hc, N′x, N′y, Nβ, filter-type, band, kind, dx, dy, depth, exists}
 use Rattle.layout.specs.Built.{Built}
+use Rattle.layout.specs.Cells.{inner}
 use Rattle.layout.proofs.Filters.{formula}
+use Rattle.layout.proofs.Cells.{Exists, has-exists, has-cell}
 use Rattle.layout.proofs.Existing.{BandOf, has-band, dy-is}
 use Rattle.distances.specs.Rule.{type-of}
 
@@ -81,3 +84,11 @@ module _ (s : Shape) (built : Built s) (i : ℕ) (c : i < s .nc) (k : Kind) (x y
       let b : BandOf s built i c k x y = has-band s built i c k x y h in
       let at : BandAt s i k x y (b .β) = record { below = b .below; there = b .there; letters = b .letters; across = b .across; down = b .down } in
       rw (found b) at at
+
+  -- and a coefficient of it is one of the layout's, which stands where the transform takes it
+  module _ {column row : ℕ} (d : Coefficient (Wc s i) (Hc s i) (s .nlx) (N′y s i) k x y column row) where
+    pub type-exists : Exists s i (type-of s k x) column row
+    type-exists = rw (found (has-band s built i c k x y (d .has))) at (has-exists s built i c d)
+
+    pub type-cell : inner s (type-of s k x) i column row ≡ place (τy k) y row * Wc s i + place (τx k) x column
+    type-cell = rw (found (has-band s built i c k x y (d .has))) at (has-cell s built i c d)

@@ -1,18 +1,19 @@
 -- The laws of the quantisers over whole numbers, for either quantiser, every M and every T. Assumes nothing.
-use mathlib.Core.Path.{_≡_, refl, ap, _∙_}
+use mathlib.Core.Path.{_≡_, refl, sym, ap, ap₂, _∙_}
 use mathlib.Core.Bool.{Bool}
 use Prim.Native.Nat.{ℕ, suc, _+_, _-_, _^_, _≤_, _<_, max}
-use native.Mathlib.Nat.{lt-of-lt-of-le, zero-mul, mul-le-mul-right}
+use native.Mathlib.Nat.{lt-of-lt-of-le, zero-mul, mul-le-mul-right, eq-of-mul-eq-mul-right}
 use native.Mathlib.Omega.{arith}
 use lib.IntN.{ℤ, pos, negsuc, negℤ, natAbs}
-use lib.Pow.{pow-mono, shl-lt, ones-lt}
+use lib.Pow.{pow-pos, pow-mono, shl-lt, ones-lt}
 use Rattle.whole.specs.Numbers.{Within, bySize, signed}
+use Rattle.whole.proofs.Linear.{up, dn, negZ, mulZ, eqZ}
 use Rattle.whole.proofs.Machine.{size-neg, size-mul}
 use Rattle.whole.proofs.Within.{within-le, within-mul, within-size, signed-size}
 use Rattle.quantiser.specs.Inverse.{inverse, coefficientOf, scaled, Carried}
 use Rattle.quantiser.specs.Forward.{forward, indexOf}
 use Rattle.quantiser.specs.Distance.{bandNumber}
-use Rattle.quantiser.proofs.Near.{inverse-zero, inverse-small, inverse-near, inverse-exact, forward-fits, forward-exact}
+use Rattle.quantiser.proofs.Near.{inverse-zero, inverse-small, inverse-near, inverse-exact, inverse-one, forward-fits, forward-exact}
 
 -- ---- a rule on sizes, at a whole number
 
@@ -71,6 +72,28 @@ module _ (q : Bool) (M : ℕ) where
   pub both-exact : (c : ℤ) → natAbs c < 2 ^ M → coefficientOf q M 0 (indexOf q M 0 c) ≡ c
   both-exact c h = ap (coefficientOf q M 0) (index-exact c h) ∙ coefficient-exact c h
 
+-- ---- a coefficient has one index
+
+pub coefficient-one : (q : Bool) (M T : ℕ) (i j : ℤ) → natAbs i < 2 ^ (M - T) → natAbs j < 2 ^ (M - T) → coefficientOf q M T i ≡ coefficientOf q M T j → i ≡ j
+unfolding coefficientOf
+coefficient-one q M T i j hi hj e = by i j (inverse-one q M T (natAbs i) (natAbs j) hi hj sizes) hi hj e
+  where
+    sizes : inverse q M T (natAbs i) ≡ inverse q M T (natAbs j)
+    sizes = sym (size-by (inverse q M T) i) ∙ ap natAbs e ∙ size-by (inverse q M T) j
+
+    -- an index other than 0 gives another coefficient with the other sign
+    turned : (m n : ℕ) → m < 2 ^ (M - T) → m ≡ suc n → pos (inverse q M T m) ≡ negℤ (pos (inverse q M T (suc n))) → ⊥
+    turned m n h k f =
+        let none : inverse q M T m ≡ 0 = ap up f ∙ negZ (pos (inverse q M T (suc n))) .0 in
+        let zero : m ≡ 0 = inverse-one q M T m 0 h (pow-pos (M - T)) (none ∙ sym (inverse-zero q M T)) in
+        omega arith
+
+    by : (i j : ℤ) → natAbs i ≡ natAbs j → natAbs i < 2 ^ (M - T) → natAbs j < 2 ^ (M - T) → bySize (inverse q M T) i ≡ bySize (inverse q M T) j → i ≡ j
+    by (pos m) (pos n) k hi hj f = ap pos k
+    by (negsuc m) (negsuc n) k hi hj f = ap negsuc (omega arith)
+    by (pos m) (negsuc n) k hi hj f = absurd (turned m n hi k f)
+    by (negsuc m) (pos n) k hi hj f = absurd (turned n m hj (sym k) (sym f))
+
 -- ---- times 2 ^ Fq
 
 pub scaled-zero : (Fq : ℕ) → scaled Fq (pos 0) ≡ pos 0
@@ -80,6 +103,15 @@ scaled-zero Fq = ap pos (zero-mul (2 ^ Fq))
 pub scaled-small : (Fq k : ℕ) (c : ℤ) → natAbs c < 2 ^ k → natAbs (scaled Fq c) < 2 ^ (k + Fq)
 unfolding scaled
 scaled-small Fq k c h = rw (size-mul c (2 ^ Fq)) (shl-lt k Fq h)
+
+pub scaled-one : (Fq : ℕ) (x y : ℤ) → scaled Fq x ≡ scaled Fq y → x ≡ y
+unfolding scaled
+scaled-one Fq x y e =
+    let m = 2 ^ Fq in
+    eqZ x y
+    (ap₂ (λ (a b : ℕ). a + b)
+    (eq-of-mul-eq-mul-right m (pow-pos Fq) (up x) (up y) (sym (mulZ x m .0) ∙ ap up e ∙ mulZ y m .0))
+    (eq-of-mul-eq-mul-right m (pow-pos Fq) (dn y) (dn x) (sym (mulZ y m .1) ∙ ap dn (sym e) ∙ mulZ x m .1)))
 
 -- ---- sizes for words: of an index that a data subpacket can carry
 

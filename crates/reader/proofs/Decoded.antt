@@ -38,12 +38,13 @@ value-inside s i x y at = omega (arith, offset-below s i x y (at .column) (at .r
 cleared : (n : ℕ) → Bounded (2 ^ 40) (replicate n (pos 0))
 cleared n = record { most = λ j l. rw (getD-replicate n j (pos 0) (pos 0) (omega (arith, l, length-replicate n (pos 0)))) (omega arith) }
 
-none-yet : Few (replicate 40 0)
+-- no band has a T yet
+pub none-yet : (b : ℕ) → _≡_ {A = ℕ} (getD (replicate 40 0) b 0) 0
 none-yet b = by (decLt b 40)
   where
-    by : Dec (b < 40) → getD (replicate 40 0) b 0 ≤ 31
-    by (yes l) = rw (getD-replicate {A = ℕ} 40 b 0 0 l) (omega arith)
-    by (no l) = rw (List·getD-eq-default {A = ℕ} (replicate 40 0) 0 {n = b} (omega (arith, length-replicate {A = ℕ} 40 0))) (omega arith)
+    by : Dec (b < 40) → _≡_ {A = ℕ} (getD (replicate 40 0) b 0) 0
+    by (yes l) = getD-replicate {A = ℕ} 40 b 0 0 l
+    by (no l) = List·getD-eq-default {A = ℕ} (replicate 40 0) 0 {n = b} (omega (arith, length-replicate {A = ℕ} 40 0))
 
 -- ---- the slices of a page
 
@@ -67,7 +68,7 @@ module _ {s : List ℕ} {h : Header} (o : Opened s h) where
 
   pub decoded-few : Few (tops s h)
   unfolding decoded
-  decoded-few = stream-few s (settingOf h) (settled o) from none-yet
+  decoded-few = stream-few s (settingOf h) (settled o) from (λ b. omega (arith, none-yet b))
 
   pub decoded-is : (a : ℕ) → a ≡ N h → Decoded h a (tops s h) (cells s h)
   decoded-is a room =

@@ -9,8 +9,10 @@ use native.Mathlib.Numerals.{add-one}
 use native.Mathlib.Omega.{arith}
 use borrow.Author.Tests.{ltb-false, le-ltb}
 use lib.Dec.{ltb}
-use Rattle.rows.specs.Rows.{broken, first, then, each}
+use Rattle.rows.specs.Rows.{number, broken, first, then, each, answer}
 use Rattle.rows.specs.declared.Check.{Check}
+use Rattle.rows.specs.declared.Row.{Row}
+use Rattle.rows.specs.declared.Row.the-variants.{Cut, Marker, Value, Lacking, Lent, Length, Count, Mode}
 use Rattle.rows.specs.declared.Verdict.{Verdict}
 use Rattle.rows.specs.declared.Verdict.the-variants.{Fine, Refused}
 
@@ -47,9 +49,29 @@ each-more n f e p q = rw add-one (joined (each n f) (f n) e p q)
 pub refused-fine : {A : Type 0} {c : Check} → Refused c ≡ Fine → A
 refused-fine e = let z : _≡_ {A = ℕ} 0 1 = cc in absurd (omega arith)
 
-then-fine : (v w : Verdict) → then v w ≡ Fine → (v ≡ Fine) × (w ≡ Fine)
+pub then-fine : (v w : Verdict) → then v w ≡ Fine → (v ≡ Fine) × (w ≡ Fine)
 then-fine Fine w e = (refl, e)
 then-fine (Refused c) w e = refused-fine e
+
+-- the rows have the numbers 1 to 8
+pub numbered : (r : Row) → (0 < number r) × (number r ≤ 8)
+numbered Cut = (omega arith, omega arith)
+numbered Marker = (omega arith, omega arith)
+numbered Value = (omega arith, omega arith)
+numbered Lacking = (omega arith, omega arith)
+numbered Lent = (omega arith, omega arith)
+numbered Length = (omega arith, omega arith)
+numbered Count = (omega arith, omega arith)
+numbered Mode = (omega arith, omega arith)
+
+-- so that the answer 0 refuses nothing
+pub answer-fine : (v : Verdict) → answer v ≡ 0 → v ≡ Fine
+answer-fine Fine e = refl
+answer-fine (Refused c) e = absurd (omega (arith, e, numbered (c .0) .0))
+
+pub answer-most : (v : Verdict) → answer v ≤ 8
+answer-most Fine = omega arith
+answer-most (Refused c) = numbered (c .0) .1
 
 pub append-fine : (xs ys : List Check) → first (xs ++ ys) ≡ Fine → (first xs ≡ Fine) × (first ys ≡ Fine)
 append-fine xs ys e = then-fine (first xs) (first ys) (sym (first-append xs ys) ∙ e)

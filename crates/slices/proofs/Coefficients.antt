@@ -1,6 +1,6 @@
 -- What an accepted slice and an accepted stream leave: every coefficient of their bands, by the quantiser and the T of its own precinct. Assumes
 -- nothing.
-use Prim.Native.Nat.{ℕ, _+_, _*_, _/_, _%_, _≤_, _<_}
+use Prim.Native.Nat.{ℕ, _+_, _-_, _*_, _/_, _%_, _^_, _≤_, _<_}
 use mathlib.Core.Path.{_≡_, refl, sym, ap, _∙_}
 use mathlib.Core.List.{List}
 use native.Mathlib.Nat.{div-add-mod'}
@@ -10,15 +10,11 @@ use lib.ListN.{length}
 use Rattle.whole.specs.Cells.{cell}
 use Rattle.loops.proofs.Before.{before-carries}
 use Rattle.rows.specs.declared.Verdict.the-variants.{Fine}
-use Rattle.wavelet.specs.Transform.{Kind}
-use Rattle.wavelet.specs.Bands.{τx, τy, Coefficient}
-use Rattle.wavelet.specs.Places.{place as at}
-use Rattle.layout.specs.Bands.{Wc, Hc, N′x, N′y, NL, Nβ, kind, dx, depth, band}
-use Rattle.layout.specs.Precincts.{Npx, Np, slices, slice-top, Member}
-use Rattle.layout.specs.Cells.{start, inner, cell as place}
+use Rattle.layout.specs.Bands.{sx, sy, NL, dx, depth, band}
+use Rattle.layout.specs.Precincts.{Cs, Npx, Np, slices, slice-top, Member}
+use Rattle.layout.specs.Cells.{start, cell as place}
 use Rattle.layout.specs.Slots.{line-at}
-use Rattle.layout.proofs.Existing.{has-band}
-use Rattle.layout.proofs.Cells.{Exists, has-exists, has-cell}
+use Rattle.layout.proofs.Cells.{Exists}
 use Rattle.layout.proofs.Cover.{row-of, row-below, column-of, column-below}
 use Rattle.packets.specs.declared.Setting.{Setting}
 use Rattle.packets.specs.declared.Precinct.{Precinct}
@@ -30,7 +26,7 @@ use Rattle.slices.specs.Precinct.{raised}
 use Rattle.slices.specs.Slice.{State, Left, rowOf, columnOf, isTop, precinctTurn, slice}
 use Rattle.slices.specs.Stream.{sliceTurn, stream}
 use Rattle.slices.specs.Reached.{beforePrecinct, sliceHas, sliceReads, beforeSlice, streamHas, countOf}
-use Rattle.slices.proofs.SliceLaws.{row-inside, column-inside, numbered}
+use Rattle.slices.proofs.SliceLaws.{row-inside, column-inside, Numbered, numbered}
 use Rattle.slices.proofs.Laws.{precinct-length, slice-length, slice-tops-length, slice-tops-up, slice-other, raised-length}
 use Rattle.slices.proofs.Reaching.{slice-precinct, slice-left, stream-slice, stream-left}
 use Rattle.slices.proofs.PrecinctCoefficients.{Stored, stored-still, precinct-coefficients, precinct-leaves, far-coefficient, far-count}
@@ -104,89 +100,61 @@ module _ (s : List ℕ) (c : Setting) (settled : Settled c) {i β x y : ℕ} (h 
 
 -- ---- a stream, whose first slice header stands at the state's place
 
--- coefficient (x, y) of filter type β of component i, as an accepted stream leaves it: it belongs to precinct n of slice t
-pub record StoredIn (s : List ℕ) (c : Setting) (from : State) (i β x y : ℕ) : Type 0 where
-  pub t : ℕ
-  pub n : ℕ
-  pub slice : t < slices (c .shape)
-  pub precinct : n < Np (c .shape) t
-  pub stored : Stored c (streamHas s c from t n) (stream s c from .1 .1) (stream s c from .1 .2) i β x y
-
--- the same by the letters and depths of the inverse transform, with the β that has them
-pub record StoredAs (s : List ℕ) (c : Setting) (from : State) (i : ℕ) (k : Kind) (across down x y : ℕ) : Type 0 where
-  pub β : ℕ
-  pub type : β < Nβ (c .shape)
-  pub letters : kind (c .shape) β ≡ k
-  pub depth-across : dx (c .shape) β ≡ across
-  pub depth-down : depth (c .shape) β i ≡ down
-  -- its cell, counted from its component's first, is the one where the transform takes it
-  pub at : inner (c .shape) β i x y ≡ at (τy k) down y * Wc (c .shape) i + at (τx k) across x
-  pub stored : StoredIn s c from i β x y
-
+-- and coefficient (x, y) of filter type β of component i
 module _ (s : List ℕ) (c : Setting) (settled : Settled c) (from : State) (room : start (c .shape) (c .shape .nc) ≤ length (from .2))
-    (long : NL (c .shape) ≤ length (from .1)) (fine : stream s c from .0 ≡ Fine) {i : ℕ} (h : i < c .shape .nc) where
-  module _ {β x y : ℕ} (e : Exists (c .shape) i β x y) where
-    -- an accepted stream leaves it where it belongs to precinct n of slice t
-    module _ (t : ℕ) (l : t < slices (c .shape)) (n : ℕ) (k : n < Np (c .shape) t)
-        (m : Member (c .shape) (rowOf s c t n) (columnOf s c t n) β i x y) where
-      abbrev InStream : ℕ → State → Type 0
-      InStream g z =
-          (length (z .2) ≡ length (from .2)) × (length (z .1) ≡ length (from .1)) × (t < g → Stored c (streamHas s c from t n) (z .1) (z .2) i β x y)
+    (long : NL (c .shape) ≤ length (from .1)) (fine : stream s c from .0 ≡ Fine) {i β x y : ℕ} (h : i < c .shape .nc) (e : Exists (c .shape) i β x y) where
+  -- an accepted stream leaves it where it belongs to precinct n of slice t
+  module _ (t : ℕ) (l : t < slices (c .shape)) (n : ℕ) (k : n < Np (c .shape) t)
+      (m : Member (c .shape) (rowOf s c t n) (columnOf s c t n) β i x y) where
+    abbrev InStream : ℕ → State → Type 0
+    InStream g z =
+        (length (z .2) ≡ length (from .2)) × (length (z .1) ≡ length (from .1)) × (t < g → Stored c (streamHas s c from t n) (z .1) (z .2) i β x y)
 
-      slice-carries : (g : ℕ) → g < slices (c .shape) → InStream g (beforeSlice s c from g) → InStream (g + 1) (beforeSlice s c from (g + 1))
-      slice-carries g w q =
-          let r = stream-slice s c from fine g w in
-          rw (← ap (λ (z : Left). z .1) r) (
-            slice-length s c settled g w (beforeSlice s c from g) ∙ q .0,
-            slice-tops-length s c g (beforeSlice s c from g) ∙ q .1,
-            pick (ap (λ (z : Left). z .0) r) (decLt t g),
-          )
-        where
-          pick : slice s c g (beforeSlice s c from g) .0 ≡ Fine → Dec (t < g) → t < g + 1
-              → Stored c (streamHas s c from t n) (slice s c g (beforeSlice s c from g) .1 .1) (slice s c g (beforeSlice s c from g) .1 .2) i β x y
-          pick accepted (yes before) u =
-              slice-leaves s c settled h e g w (beforeSlice s c from g) (omega (arith, q .1)) (q .2 before)
-              (λ d. omega (arith, d, row-inside (c .shape) (settled .shape) t l n k .1))
-          pick accepted (no after) u =
-              let same : g ≡ t = omega arith in
-              let q′ = rw same at q in
-              rw same
-              (slice-coefficients s c settled h e t l (beforeSlice s c from t) (omega (arith, q′ .1)) (omega (arith, q′ .0)) (rw same at accepted) n k m)
+    slice-carries : (g : ℕ) → g < slices (c .shape) → InStream g (beforeSlice s c from g) → InStream (g + 1) (beforeSlice s c from (g + 1))
+    slice-carries g w q =
+        let r = stream-slice s c from fine g w in
+        rw (← ap (λ (z : Left). z .1) r) (
+          slice-length s c settled g w (beforeSlice s c from g) ∙ q .0,
+          slice-tops-length s c g (beforeSlice s c from g) ∙ q .1,
+          pick (ap (λ (z : Left). z .0) r) (decLt t g),
+        )
+      where
+        pick : slice s c g (beforeSlice s c from g) .0 ≡ Fine → Dec (t < g) → t < g + 1
+            → Stored c (streamHas s c from t n) (slice s c g (beforeSlice s c from g) .1 .1) (slice s c g (beforeSlice s c from g) .1 .2) i β x y
+        pick accepted (yes before) u =
+            slice-leaves s c settled h e g w (beforeSlice s c from g) (omega (arith, q .1)) (q .2 before)
+            (λ d. omega (arith, d, row-inside (c .shape) (settled .shape) t l n k .1))
+        pick accepted (no after) u =
+            let same : g ≡ t = omega arith in
+            let q′ = rw same at q in
+            rw same
+            (slice-coefficients s c settled h e t l (beforeSlice s c from t) (omega (arith, q′ .1)) (omega (arith, q′ .0)) (rw same at accepted) n k m)
 
-      pub stream-precinct : Stored c (streamHas s c from t n) (stream s c from .1 .1) (stream s c from .1 .2) i β x y
-      stream-precinct =
-          let first : InStream 0 from = (refl, refl, λ u. absurd (omega arith)) in
-          rw (stream-left s c from fine) (before-carries (sliceTurn s c) from InStream (slices (c .shape)) first slice-carries .2 l)
+    pub stream-precinct : Stored c (streamHas s c from t n) (stream s c from .1 .1) (stream s c from .1 .2) i β x y
+    stream-precinct =
+        let first : InStream 0 from = (refl, refl, λ u. absurd (omega arith)) in
+        rw (stream-left s c from fine) (before-carries (sliceTurn s c) from InStream (slices (c .shape)) first slice-carries .2 l)
 
-    -- and there is such a precinct
-    pub stream-coefficients : StoredIn s c from i β x y
-    stream-coefficients =
-        let down = row-below (c .shape) (settled .shape) β i h y (e .row) in
-        let across = column-below (c .shape) (settled .shape) β i (e .type) h x (e .column) in
-        let q = numbered (c .shape) (settled .shape) down across in
-        record {
-          t = q .t;
-          n = q .n;
-          slice = q .slice;
-          precinct = q .precinct;
-          stored =
-              stream-precinct (q .t) (q .slice) (q .n) (q .precinct) (record {
-                down = sym (q .down) ∙ sym (row-of (c .shape) (settled .shape) β i h y);
-                across = sym (q .across) ∙ sym (column-of (c .shape) (settled .shape) β i (e .type) h x);
-              });
-        }
+  -- and there is such a precinct: by B.5's rule it stands in this row and column
+  abbrev row : ℕ
+  row = y * sy (c .shape) i * 2 ^ depth (c .shape) β i / 2 ^ c .shape .nly
 
-  -- and so each coefficient that the inverse transform takes
-  pub stream-bands : {k : Kind} {across down x y : ℕ}
-      → Coefficient (Wc (c .shape) i) (Hc (c .shape) i) (N′x (c .shape) i) (N′y (c .shape) i) k across down x y → StoredAs s c from i k across down x y
-  stream-bands {k} {across} {down} d =
-      let b = has-band (c .shape) (settled .shape) i h k across down (d .has) in
-      record {
-        β = b .β;
-        type = b .below;
-        letters = b .letters;
-        depth-across = b .across;
-        depth-down = b .down;
-        at = has-cell (c .shape) (settled .shape) i h d;
-        stored = stream-coefficients (has-exists (c .shape) (settled .shape) i h d);
-      }
+  abbrev column : ℕ
+  column = x * sx (c .shape) i * 2 ^ dx (c .shape) β / Cs (c .shape)
+
+  abbrev slice-of : ℕ
+  slice-of = row / c .shape .hsl
+
+  abbrev number-of : ℕ
+  number-of = (row - slice-top (c .shape) slice-of) * Npx (c .shape) + column
+
+  number-is : Numbered (c .shape) row column slice-of number-of
+  number-is =
+      let down = row-below (c .shape) (settled .shape) β i h y (e .row) in
+      let across = column-below (c .shape) (settled .shape) β i (e .type) h x (e .column) in
+      numbered (c .shape) (settled .shape) (omega (arith, down, row-of (c .shape) (settled .shape) β i h y))
+      (omega (arith, across, column-of (c .shape) (settled .shape) β i (e .type) h x))
+
+  pub stream-coefficients : Stored c (streamHas s c from slice-of number-of) (stream s c from .1 .1) (stream s c from .1 .2) i β x y
+  stream-coefficients =
+      stream-precinct slice-of (number-is .slice) number-of (number-is .precinct) (record { down = sym (number-is .down); across = sym (number-is .across) })

@@ -1,6 +1,6 @@
 -- What precincts, slices and the stream leave, for the layers above: where a reading ends, which cells it keeps, and the largest T. Assumes nothing.
 use Prim.Native.Nat.{ℕ, zero, suc, _+_, _/_, _^_, _≤_, _<_, max}
-use mathlib.Core.Path.{_≡_, refl, _∙_}
+use mathlib.Core.Path.{_≡_, refl, ap, _∙_}
 use mathlib.Core.Bool.{Bool, true, false, cond}
 use mathlib.Core.List.{List, [], _∷_}
 use native.Mathlib.Decide.{decLt}
@@ -174,12 +174,13 @@ stream-ends s c x =
 abbrev pub Few : List ℕ → Type 0
 Few tops = (b : ℕ) → getD tops b 0 ≤ 31
 
-set-few : (l : List ℕ) (i : ℕ) {v : ℕ} → v ≤ 31 → Few l → Few (set l i v)
-set-few [] i k h b = h b
-set-few (x ∷ xs) zero k h zero = k
-set-few (x ∷ xs) zero k h (suc b) = h (suc b)
-set-few (x ∷ xs) (suc i) k h zero = h zero
-set-few (x ∷ xs) (suc i) k h (suc b) = set-few xs i k (λ j. h (suc j)) b
+-- a place that is not set, or is set to no more than m
+set-most : (l : List ℕ) (i b : ℕ) {v m : ℕ} → (i ≡ b → v ≤ m) → getD l b 0 ≤ m → getD (set l i v) b 0 ≤ m
+set-most [] i b new h = h
+set-most (x ∷ xs) zero zero new h = new refl
+set-most (x ∷ xs) zero (suc b) new h = h
+set-most (x ∷ xs) (suc i) zero new h = h
+set-most (x ∷ xs) (suc i) (suc b) new h = set-most xs i b (λ e. new (ap suc e)) h
 
 module _ (c : Setting) (p : Precinct) where
   pub raised-length : (n : ℕ) (tops : List ℕ) → length (raised c p n tops) ≡ length tops
@@ -226,18 +227,25 @@ module _ (c : Setting) (p : Precinct) where
       let e : raisedBy c p b (getD tops b 0) ≡ max (getD tops b 0) (T c p b) = rw h in
       omega (arith, raised-at n b tops k l, e)
 
-module _ (c : Setting) (p : Precinct) (settled : Settled c) where
-  raised-by-most : (b top : ℕ) → top ≤ 31 → raisedBy c p b top ≤ 31
-  raised-by-most b top h = by (holds c p b)
+  raised-by-most : (b top : ℕ) {m : ℕ} → (holds c p b ≡ true → T c p b ≤ m) → top ≤ m → raisedBy c p b top ≤ m
+  raised-by-most b top {m} own h = by (holds c p b) own
     where
-      by : (e : Bool) → cond e (max top (T c p b)) top ≤ 31
-      by true = omega (arith, T-most c p b settled)
-      by false = h
+      by : (e : Bool) → (e ≡ true → T c p b ≤ m) → cond e (max top (T c p b)) top ≤ m
+      by true own = omega (arith, own refl)
+      by false own = h
 
-  pub raised-most : (n : ℕ) (tops : List ℕ) → Few tops → Few (raised c p n tops)
+  -- one that is at most m stays so, if the precinct's own T is no more where it holds the band
+  pub raised-most : (n b : ℕ) {m : ℕ} (tops : List ℕ) → (b < n → holds c p b ≡ true → T c p b ≤ m) → getD tops b 0 ≤ m → getD (raised c p n tops) b 0 ≤ m
   unfolding raised
-  raised-most zero tops h = h
-  raised-most (suc n) tops h = set-few (raised c p n tops) n (raised-by-most n (getD tops n 0) (h n)) (raised-most n tops h)
+  raised-most zero b tops own h = h
+  raised-most (suc n) b {m} tops own h =
+      set-most (raised c p n tops) n b set-here (raised-most n b tops (λ l. own (omega arith)) h)
+    where
+      set-here : n ≡ b → raisedBy c p n (getD tops n 0) ≤ m
+      set-here e = rw e (raised-by-most b (getD tops b 0) (own (omega arith)) h)
+
+  pub raised-few : Settled c → (n : ℕ) (tops : List ℕ) → Few tops → Few (raised c p n tops)
+  raised-few settled n tops h b = raised-most n b tops (λ l e. T-most c p b settled) (h b)
 
 -- what each precinct keeps of the largest T, a slice and the stream keep
 module _ (s : List ℕ) (c : Setting) (P : List ℕ → Type 0) (kept : (p : Precinct) (tops : List ℕ) → P tops → P (raised c p (NL (c .shape)) tops)) where
@@ -270,10 +278,10 @@ module _ (s : List ℕ) (c : Setting) (P : List ℕ → Type 0) (kept : (p : Pre
 
 module _ (s : List ℕ) (c : Setting) where
   pub slice-few : Settled c → (t : ℕ) (x : State) → Few (x .1) → Few (slice s c t x .1 .1)
-  slice-few settled = slice-tops s c Few (λ p. raised-most c p settled (NL (c .shape)))
+  slice-few settled = slice-tops s c Few (λ p. raised-few c p settled (NL (c .shape)))
 
   pub stream-few : Settled c → (x : State) → Few (x .1) → Few (stream s c x .1 .1)
-  stream-few settled = stream-tops s c Few (λ p. raised-most c p settled (NL (c .shape)))
+  stream-few settled = stream-tops s c Few (λ p. raised-few c p settled (NL (c .shape)))
 
   pub slice-tops-length : (t : ℕ) (x : State) → length (slice s c t x .1 .1) ≡ length (x .1)
   slice-tops-length t x = slice-tops s c (λ z. length z ≡ length (x .1)) (λ p tops e. raised-length c p (NL (c .shape)) tops ∙ e) t x refl

@@ -1,11 +1,12 @@
 -- What an accepted precinct leaves: every coefficient of its bands, by the quantiser and its own T. No other precinct changes it. Assumes nothing.
 use Prim.Native.Nat.{ℕ, _+_, _-_, _*_, _/_, _%_, _≤_, _<_}
 use mathlib.Core.Path.{_≡_, refl, sym, ap, _∙_}
-use mathlib.Core.Bool.{Bool, true, false, cond}
+use mathlib.Core.Bool.{Bool, true, false, cond, _&&_}
 use mathlib.Core.List.{List}
 use native.Mathlib.Decide.{decLt}
 use native.Mathlib.Omega.{arith}
-use borrow.Author.Tests.{lt-ltb}
+use borrow.Author.Tests.{lt-ltb, ltb-true}
+use lib.Dec.{ltb}
 use lib.IntN.{ℤ, pos, negsuc}
 use lib.ListN.{length, getD}
 use Rattle.whole.specs.Cells.{cell}
@@ -14,13 +15,13 @@ use Rattle.loops.proofs.Laws.{Kept, run-carries}
 use Rattle.rows.specs.Rows.{first}
 use Rattle.rows.specs.declared.Verdict.{Verdict}
 use Rattle.rows.specs.declared.Verdict.the-variants.{Fine, Refused}
-use Rattle.layout.specs.Bands.{NL, band}
+use Rattle.layout.specs.Bands.{NL, Nβ, band, exists}
 use Rattle.layout.specs.Built.{Built}
-use Rattle.layout.specs.Precincts.{Npx, Npy, lines, most-lines, first-x, Member}
+use Rattle.layout.specs.Precincts.{Npx, Npy, lines, most-lines, first-x, first-y, Member}
 use Rattle.layout.specs.Cells.{start, cell as place}
 use Rattle.layout.specs.Slots.{slots, candidates, line-at}
 use Rattle.layout.proofs.Cells.{Exists}
-use Rattle.layout.proofs.Cover.{row-of, member-line}
+use Rattle.layout.proofs.Cover.{row-of, member-line, line-member, column-of, column-member, width-some}
 use Rattle.counts.specs.Lines.{heldM, heldT}
 use Rattle.counts.proofs.Laws.{held-t}
 use Rattle.values.specs.Group.{countIn}
@@ -200,6 +201,38 @@ member-holds c p built {i} {β} {x} {y} h e m =
     let row : p .row ≡ y / most-lines s β i = m .down ∙ row-of s built β i h y in
     let some : 0 < lines s (y / most-lines s β i) β i = omega (arith, member-line s built β i h y (e .row)) in
     rw (parts .0, parts .1, row, e .there, lt-ltb 0 (lines s (y / most-lines s β i) β i) some)
+
+-- and one that holds a band has a coefficient of it: its first column and line there. So the T that rule 1 takes are those of the 'precincts holding at
+-- least one of its coefficients'
+pub record Held (c : Setting) (p : Precinct) (i β : ℕ) : Type 0 where
+  pub x : ℕ
+  pub y : ℕ
+  pub exists : Exists (c .shape) i β x y
+  pub member : Member (c .shape) (p .row) (p .column) β i x y
+
+both-true : (a b : Bool) → (a && b) ≡ true → (a ≡ true) × (b ≡ true)
+both-true true b e = (refl, e)
+both-true false b e = let z : _≡_ {A = ℕ} 0 1 = cc in absurd (omega arith)
+
+pub holds-some : (c : Setting) (p : Precinct) → Built (c .shape) → {i β : ℕ} → i < c .shape .nc → β < Nβ (c .shape) → p .column < Npx (c .shape)
+    → holds c p (band (c .shape) β i) ≡ true → Held c p i β
+holds-some c p built {i} {β} h type across e =
+    let s = c .shape in
+    let parts = band-parts s β i h in
+    let e′ : (exists s β i && ltb 0 (lines s (p .row) β i)) ≡ true = rw (parts .0, parts .1) at e in
+    let both = both-true (exists s β i) (ltb 0 (lines s (p .row) β i)) e′ in
+    let some = ltb-true 0 (lines s (p .row) β i) (both .1) in
+    let x = first-x s (p .column) β i in
+    let y = first-y s (p .row) β i in
+    let down = line-member s built β i h (p .row) y (omega arith) (omega (arith, some)) in
+    let width = width-some s built β i type h (p .column) across in
+    let along = column-member s built β i type h (p .column) x across (omega arith) (omega (arith, width)) in
+    record {
+      x = x;
+      y = y;
+      exists = record { type = type; there = both .0; column = along .0; row = down .0 };
+      member = record { down = sym (row-of s built β i h y ∙ down .1); across = sym (column-of s built β i type h x ∙ along .1) };
+    }
 
 module _ (c : Setting) (settled : Settled c) {i β x y : ℕ} (h : i < c .shape .nc) (e : Exists (c .shape) i β x y) where
   module _ {row column : ℕ} (m : Member (c .shape) row column β i x y) where

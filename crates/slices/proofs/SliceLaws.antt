@@ -47,16 +47,16 @@ module _ (s : Shape) (built : Built s) (t : ℕ) (h : t < slices s) where
     pub column-inside : n % Npx s < Npx s
     column-inside = mod-lt n (Npx-some s built)
 
--- every precinct of the picture is number n of a slice t
-pub record Numbered (s : Shape) (row column : ℕ) : Type 0 where
-  pub t : ℕ
-  pub n : ℕ
+-- the precinct in this row and column is number n of slice t
+pub record Numbered (s : Shape) (row column t n : ℕ) : Type 0 where
   pub slice : t < slices s
   pub precinct : n < Np s t
   pub down : row ≡ slice-top s t + n / Npx s
   pub across : column ≡ n % Npx s
 
-pub numbered : (s : Shape) → Built s → {row column : ℕ} → row < Npy s → column < Npx s → Numbered s row column
+-- every precinct of the picture has such a number
+pub numbered : (s : Shape) → Built s → {row column : ℕ} → row < Npy s → column < Npx s
+    → Numbered s row column (row / s .hsl) ((row - slice-top s (row / s .hsl)) * Npx s + column)
 numbered s built {row} {column} h k =
     let q = row-slice s built row h in
     let t = row / s .hsl in
@@ -64,8 +64,6 @@ numbered s built {row} {column} h k =
     let more : suc r * Npx s ≤ slice-rows s t * Npx s = mul-le-mul-right (Npx s) (omega (arith, q)) in
     let div : (r * Npx s + column) / Npx s ≡ r + 0 = mul-add-div-right (Npx-some s built) r column ∙ ap (λ (m : ℕ). r + m) (div-eq-of-lt k) in
     record {
-      t = t;
-      n = r * Npx s + column;
       slice = q .0;
       precinct = omega (arith, more, suc-mul r (Npx s), mul-comm (Npx s) (slice-rows s t));
       down = omega (arith, q, div);
