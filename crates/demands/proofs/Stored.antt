@@ -1,16 +1,17 @@
 -- What an accepted page stores of each coefficient: its index, and the largest T of its band. Assumes nothing.
 use mathlib.Core.Path.{_≡_, sym, subst, ap, _∙_}
 use mathlib.Core.List.{List}
-use Prim.Native.Nat.{ℕ, _+_, _*_, _/_, _^_, _≤_, _<_}
+use Prim.Native.Nat.{ℕ, _+_, _*_, _/_, _^_, _≤_, _<_, max}
 use native.Mathlib.Nat.{lt-of-lt-of-le}
 use native.Mathlib.Omega.{arith}
-use lib.IntN.{ℤ, pos}
+use lib.IntN.{ℤ, pos, natAbs}
 use lib.ListN.{getD, length-replicate}
 use lib.Pow.{pow-mono}
 use Rattle.whole.specs.Numbers.{bySize}
 use Rattle.whole.specs.Cells.{cell}
 use Rattle.rows.specs.declared.Verdict.the-variants.{Fine}
 use Rattle.quantiser.specs.Inverse.{coefficientOf}
+use Rattle.quantiser.specs.Forward.{indexOf}
 use Rattle.quantiser.proofs.Laws.{coefficient-small, index-back, coefficient-one, scaled-back, scaled-one}
 use Rattle.wavelet.specs.Transform.{Kind}
 use Rattle.wavelet.specs.Bands.{Coefficient}
@@ -74,19 +75,25 @@ stored-one {s} {i} {k} {dx} {dy} {x} {y} {ι} {κ} p q =
 abbrev pub own : List ℕ → Coefficients
 own s i k dx dy x y = bySize (λ n. n / 2 ^ setting s .fq) (coefficients s (headerOf s) i k dx dy x y)
 
+module _ {s : List ℕ} {i : ℕ} {k : Kind} {dx dy x y : ℕ} (p : Some s i k dx dy x y) where
+  abbrev M : ℕ
+  M = planesOf s i k dx dy x y
+
+  abbrev T : ℕ
+  T = truncationOf s i k dx dy x y
+
+  own-is : own s i k dx dy x y ≡ coefficientOf (setting s .uniform) M T (p .index)
+  own-is = ap (bySize (λ n. n / 2 ^ setting s .fq)) (p .stored .is) ∙ scaled-back (setting s .fq) (coefficientOf (setting s .uniform) M T (p .index))
+
+  own-small : natAbs (own s i k dx dy x y) < 2 ^ max M T
+  own-small = rw own-is (lt-of-lt-of-le (coefficient-small (setting s .uniform) M T (p .index) (p .stored .carried .below)) (pow-mono (omega arith)))
+
+  own-gives : Index s i k dx dy x y (indexOf (setting s .uniform) M T (own s i k dx dy x y))
+  own-gives = rw (own-is, index-back (setting s .uniform) M T (p .index) (p .stored .carried .below)) (p .stored)
+
 pub own-quantised : (s : List ℕ) → Opened s (headerOf s) → decodedVerdict s (headerOf s) ≡ Fine → Quantised s (own s)
 own-quantised s o fine =
     record {
-      small = λ i h k dx dy x y d.
-      let p = stored-some o fine h d in
-      rw (own-is p) (lt-of-lt-of-le (coefficient-small (setting s .uniform) (planesOf s i k dx dy x y) (truncationOf s i k dx dy x y) (p .index) (p .stored .carried .below)) (pow-mono (omega arith)));
-      gives = λ i h k dx dy x y d.
-      let p = stored-some o fine h d in
-      rw (own-is p, index-back (setting s .uniform) (planesOf s i k dx dy x y) (truncationOf s i k dx dy x y) (p .index) (p .stored .carried .below)) (p .stored);
+      small = λ i h k dx dy x y d. own-small (stored-some o fine h d);
+      gives = λ i h k dx dy x y d. own-gives (stored-some o fine h d);
     }
-  where
-    own-is : {i : ℕ} {k : Kind} {dx dy x y : ℕ} (p : Some s i k dx dy x y)
-        → own s i k dx dy x y ≡ coefficientOf (setting s .uniform) (planesOf s i k dx dy x y) (truncationOf s i k dx dy x y) (p .index)
-    own-is {i} {k} {dx} {dy} {x} {y} p =
-        ap (bySize (λ n. n / 2 ^ setting s .fq)) (p .stored .is)
-        ∙ scaled-back (setting s .fq) (coefficientOf (setting s .uniform) (planesOf s i k dx dy x y) (truncationOf s i k dx dy x y) (p .index))

@@ -1,3 +1,4 @@
 -- What the customer's demands speak of.
 pub mod Stored
 pub mod Uncut
+pub mod Places
