@@ -2,20 +2,22 @@
 --
 -- `Reads s a w r a′ w′` is the contract of `read`: from the stream s and the lent cells a and w it leaves the record r and the cells a′ and w′.
 -- `Quantised s C` says that C are whole-number coefficients, one for each position of each band, each of size below 2^max(M, T) with its own group's M
--- and its own precinct and band's T, that the page's forward quantiser takes to the indices stored. `stored-some` shows that each coefficient of an
--- accepted page has an index, and `stored-one` that it has one.
+-- and its own precinct and band's T, that the page's forward quantiser takes to the indices stored. `indices-there`, `stored-one` and
+-- `coefficients-there` show that each coefficient of an accepted page has one index, and that there are such C.
 -- `scaledUp s C` is ×2^Fq, and `samplesFrom` Annex E, F.3 where Cpih is 1, and G.3: the definition by which `read`'s own samples are given.
 -- `r .distance` is the record's distance, document 01's rule (`distancesFrom`), and `Near e m n` says that m and n differ by at most e.
 -- `Inside (shape s) i x y` is column x and row y of component i, whose samples begin behind `samples (shape s) i` others. Assumes nothing.
 use mathlib.Core.Path.{_≡_, refl}
 use mathlib.Core.List.{List}
-use Prim.Native.Nat.{ℕ, _+_, _*_, _<_}
+use Prim.Native.Nat.{ℕ, _+_, _*_, _≤_, _<_}
+use native.Mathlib.Omega.{arith}
 use lib.IntN.{ℤ}
 use lib.ListN.{getD}
 use Rattle.whole.specs.Numbers.{Within, Near}
 use Rattle.whole.proofs.Within.{within-swap}
 use Rattle.rows.specs.declared.Verdict.the-variants.{Fine}
 use Rattle.quantiser.specs.Forward.{indexOf}
+use Rattle.quantiser.specs.Distance.{bandNumber}
 use Rattle.quantiser.proofs.Laws.{band-within}
 use Rattle.wavelet.specs.Transform.{Kind}
 use Rattle.wavelet.specs.Bands.{Coefficient}
@@ -23,7 +25,7 @@ use Rattle.layout.specs.Bands.{Wc, Hc, N′x, N′y, band}
 use Rattle.layout.specs.Cells.{samples}
 use Rattle.planes.specs.Values.{Coefficients}
 use Rattle.planes.specs.Places.{Inside}
-use Rattle.planes.proofs.Laws.{samples-of-near}
+use Rattle.planes.proofs.Laws.{placeNumber, samples-of-near-places, samples-of-near}
 use Rattle.distances.specs.Rule.{numberOf, componentNumber, distanceOf}
 use Rattle.distances.proofs.Rules.{distance-at}
 use Rattle.reader.specs.declared.page.Page.{Page}
@@ -33,26 +35,35 @@ use Rattle.reader.specs.Page.{headerOf, Reads}
 use Rattle.reader.specs.Steps.{Opened}
 use Rattle.reader.proofs.Openings.{colours}
 use Rattle.demands.specs.Stored.{shape, setting, β, truncationOf, planesOf, Quantised, scaledUp}
+use Rattle.demands.specs.Places.{ownNumber, colouredPlace, placeDistance}
 use Rattle.demands.proofs.Accepted.{page-read}
-use Rattle.demands.proofs.Stored.{largest-known}
+use Rattle.demands.proofs.Stored.{Some, stored-some, largest-known, own, own-quantised}
 use Rattle.demands.proofs.Colours.{behind}
 
 module _ {s : List ℕ} (o : Opened s (headerOf s)) (fine : decodedVerdict s (headerOf s) ≡ Fine) {C : Coefficients} (q : Quantised s C) where
-  -- each coefficient is within its band's number of the one that is decoded
+  -- each coefficient is within the number of its own T of the one that is decoded, and so within that of any T which is no less
   coefficient-near : {i : ℕ} (h : i < shape s .nc) {k : Kind} {dx dy x y : ℕ}
-      → Coefficient (Wc (shape s) i) (Hc (shape s) i) (N′x (shape s) i) (N′y (shape s) i) k dx dy x y
-      → Within (numberOf (shape s) (setting s .fq) (tops s (headerOf s)) i k dx dy) (coefficients s (headerOf s) i k dx dy x y) (scaledUp s C i k dx dy x y)
-  coefficient-near {i} h {k} {dx} {dy} {x} {y} d =
+      → Coefficient (Wc (shape s) i) (Hc (shape s) i) (N′x (shape s) i) (N′y (shape s) i) k dx dy x y → (U : ℕ) → truncationOf s i k dx dy x y ≤ U
+      → Within (bandNumber U (setting s .fq)) (coefficients s (headerOf s) i k dx dy x y) (scaledUp s C i k dx dy x y)
+  coefficient-near {i} h {k} {dx} {dy} {x} {y} d U most =
       let M = planesOf s i k dx dy x y in
       let T = truncationOf s i k dx dy x y in
       let c = C i k dx dy x y in
-      let U = getD (tops s (headerOf s)) (band (shape s) (β s i k dx dy x y) i) 0 in
+      let u = setting s .uniform in
       rw (q .gives i h k dx dy x y d .is)
-      (within-swap
-      (band-within (setting s .uniform) M T U (setting s .fq) c (indexOf (setting s .uniform) M T c) (largest-known o fine h d)
-      (q .small i h k dx dy x y d) refl))
+      (within-swap (band-within u M T U (setting s .fq) c (indexOf u M T c) most (q .small i h k dx dy x y d) refl))
 
-  -- and so is each sample, within its component's distance
+  -- place by place: a sample is within the distance that the coefficients' own T give its place
+  pub samples-near-places : (i x y : ℕ) → Inside (shape s) i x y
+      → Near (placeDistance s i x y) (samplesFrom (headerOf s) (coefficients s (headerOf s)) i x y) (samplesFrom (headerOf s) (scaledUp s C) i x y)
+  unfolding samplesFrom
+  samples-near-places i x y p =
+      let h = headerOf s in
+      samples-of-near-places (o .shape) (colours (o .accepted .ranges)) (h .picture .bw) (depthOf h) (ownNumber s) (colouredPlace s)
+      (λ x y. behind (h .picture .cpih) (λ i. placeNumber (shape s) (ownNumber s) i x y)) (coefficients s h) (scaledUp s C)
+      (λ i l k dx dy x y d. coefficient-near l d (truncationOf s i k dx dy x y) (omega arith)) i x y p
+
+  -- with one number for each band: it is within its component's distance
   pub samples-near : (i x y : ℕ) → Inside (shape s) i x y
       → Near (getD (distancesFrom (headerOf s) (tops s (headerOf s))) i 0) (samplesFrom (headerOf s) (coefficients s (headerOf s)) i x y)
       (samplesFrom (headerOf s) (scaledUp s C) i x y)
@@ -63,14 +74,21 @@ module _ {s : List ℕ} (o : Opened s (headerOf s)) (fine : decodedVerdict s (he
       rw (distance-at (shape s) (h .picture .fq) (h .picture .cpih) (h .picture .bw) (depthOf h) (tops s h) (o .shape .few) i (p .component))
       (samples-of-near (o .shape) (colours (o .accepted .ranges)) (h .picture .bw) (depthOf h) number
       (behind (h .picture .cpih) (componentNumber (shape s) (h .picture .fq) (tops s h))) (coefficients s h) (scaledUp s C)
-      (λ i l k dx dy x y d. coefficient-near l d) i x y p)
+      (λ i l k dx dy x y d. coefficient-near l d (getD (tops s h) (band (shape s) (β s i k dx dy x y) i) 0) (largest-known o fine l d)) i x y p)
 
 -- ---- demand 3
 
-pub demand-three : {s a a′ : List ℕ} {w w′ : List ℤ} {r : Page} → Reads s a w r a′ w′ → r .answer ≡ 0
-    → (C : Coefficients) → Quantised s C
-    → (i x y : ℕ) → Inside (shape s) i x y
-    → Near (getD (r .distance) i 0) (getD a′ (samples (shape s) i + (y * Wc (shape s) i + x)) 0) (samplesFrom (headerOf s) (scaledUp s C) i x y)
-demand-three read accepted C q i x y p =
-    let page = page-read read accepted in
-    rw (page .distances, page .sample i x y p) (samples-near (page .opened) (page .fine) q i x y p)
+module _ {s a a′ : List ℕ} {w w′ : List ℤ} {r : Page} (read : Reads s a w r a′ w′) (accepted : r .answer ≡ 0) where
+  pub demand-three : (C : Coefficients) → Quantised s C → (i x y : ℕ) → Inside (shape s) i x y
+      → Near (getD (r .distance) i 0) (getD a′ (samples (shape s) i + (y * Wc (shape s) i + x)) 0) (samplesFrom (headerOf s) (scaledUp s C) i x y)
+  demand-three C q i x y p =
+      let page = page-read read accepted in
+      rw (page .distances, page .sample i x y p) (samples-near (page .opened) (page .fine) q i x y p)
+
+  -- what it speaks of is there: every coefficient has an index, which `stored-one` shows to be one, and there are coefficients with these indices
+  pub indices-there : (i : ℕ) → i < shape s .nc → (k : Kind) (dx dy x y : ℕ)
+      → Coefficient (Wc (shape s) i) (Hc (shape s) i) (N′x (shape s) i) (N′y (shape s) i) k dx dy x y → Some s i k dx dy x y
+  indices-there i h k dx dy x y d = let page = page-read read accepted in stored-some (page .opened) (page .fine) h d
+
+  pub coefficients-there : Quantised s (own s)
+  coefficients-there = let page = page-read read accepted in own-quantised s (page .opened) (page .fine)

@@ -2,3 +2,4 @@
 pub mod Stored
 pub mod Table
 pub mod Uncut
+pub mod Places

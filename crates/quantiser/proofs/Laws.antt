@@ -1,19 +1,18 @@
 -- The laws of the quantisers over whole numbers, for either quantiser, every M and every T. Assumes nothing.
-use mathlib.Core.Path.{_≡_, refl, sym, ap, ap₂, _∙_}
+use mathlib.Core.Path.{_≡_, refl, sym, ap, _∙_}
 use mathlib.Core.Bool.{Bool}
-use Prim.Native.Nat.{ℕ, suc, _+_, _-_, _^_, _≤_, _<_, max}
-use native.Mathlib.Nat.{lt-of-lt-of-le, zero-mul, mul-le-mul-right, eq-of-mul-eq-mul-right}
+use Prim.Native.Nat.{ℕ, suc, _+_, _-_, _*_, _/_, _^_, _≤_, _<_, max}
+use native.Mathlib.Nat.{lt-of-lt-of-le, zero-mul, mul-le-mul-right, zero-div, mul-div-cancel}
 use native.Mathlib.Omega.{arith}
-use lib.IntN.{ℤ, pos, negsuc, negℤ, natAbs}
+use lib.IntN.{ℤ, pos, negsuc, negℤ, natAbs, _*ℤ_}
 use lib.Pow.{pow-pos, pow-mono, shl-lt, ones-lt}
 use Rattle.whole.specs.Numbers.{Within, bySize, signed}
-use Rattle.whole.proofs.Linear.{up, dn, negZ, mulZ, eqZ}
 use Rattle.whole.proofs.Machine.{size-neg, size-mul}
-use Rattle.whole.proofs.Within.{within-le, within-mul, within-size, signed-size}
+use Rattle.whole.proofs.Within.{within-zero, within-le, within-mul, within-size, signed-size}
 use Rattle.quantiser.specs.Inverse.{inverse, coefficientOf, scaled, Carried}
 use Rattle.quantiser.specs.Forward.{forward, indexOf}
 use Rattle.quantiser.specs.Distance.{bandNumber}
-use Rattle.quantiser.proofs.Near.{inverse-zero, inverse-small, inverse-near, inverse-exact, inverse-one, forward-fits, forward-exact}
+use Rattle.quantiser.proofs.Near.{inverse-zero, inverse-small, inverse-near, inverse-exact, forward-fits, forward-exact, forward-back}
 
 -- ---- a rule on sizes, at a whole number
 
@@ -72,27 +71,24 @@ module _ (q : Bool) (M : ℕ) where
   pub both-exact : (c : ℤ) → natAbs c < 2 ^ M → coefficientOf q M 0 (indexOf q M 0 c) ≡ c
   both-exact c h = ap (coefficientOf q M 0) (index-exact c h) ∙ coefficient-exact c h
 
--- ---- a coefficient has one index
+-- ---- back and there
 
-pub coefficient-one : (q : Bool) (M T : ℕ) (i j : ℤ) → natAbs i < 2 ^ (M - T) → natAbs j < 2 ^ (M - T) → coefficientOf q M T i ≡ coefficientOf q M T j → i ≡ j
-unfolding coefficientOf
-coefficient-one q M T i j hi hj e = by i j (inverse-one q M T (natAbs i) (natAbs j) hi hj sizes) hi hj e
-  where
-    sizes : inverse q M T (natAbs i) ≡ inverse q M T (natAbs j)
-    sizes = sym (size-by (inverse q M T) i) ∙ ap natAbs e ∙ size-by (inverse q M T) j
+-- a rule g that takes back what f makes of a size takes back what f makes of a whole number
+size-back : (f g : ℕ → ℕ) → g 0 ≡ 0 → (z : ℤ) → g (f (natAbs z)) ≡ natAbs z → bySize g (bySize f z) ≡ z
+size-back f g none z e = sym (within-zero (within-size f g 0 none z (omega (arith, e), omega (arith, e))))
 
-    -- an index other than 0 gives another coefficient with the other sign
-    turned : (m n : ℕ) → m < 2 ^ (M - T) → m ≡ suc n → pos (inverse q M T m) ≡ negℤ (pos (inverse q M T (suc n))) → ⊥
-    turned m n h k f =
-        let none : inverse q M T m ≡ 0 = ap up f ∙ negZ (pos (inverse q M T (suc n))) .0 in
-        let zero : m ≡ 0 = inverse-one q M T m 0 h (pow-pos (M - T)) (none ∙ sym (inverse-zero q M T)) in
-        omega arith
+module _ (q : Bool) (M T : ℕ) where
+  forward-zero : forward q M T 0 ≡ 0
+  forward-zero = ap (forward q M T) (sym (inverse-zero q M T)) ∙ forward-back q M T 0 (pow-pos (M - T))
 
-    by : (i j : ℤ) → natAbs i ≡ natAbs j → natAbs i < 2 ^ (M - T) → natAbs j < 2 ^ (M - T) → bySize (inverse q M T) i ≡ bySize (inverse q M T) j → i ≡ j
-    by (pos m) (pos n) k hi hj f = ap pos k
-    by (negsuc m) (negsuc n) k hi hj f = ap negsuc (omega arith)
-    by (pos m) (negsuc n) k hi hj f = absurd (turned m n hi k f)
-    by (negsuc m) (pos n) k hi hj f = absurd (turned n m hj (sym k) (sym f))
+  -- the coefficient of an index that a data subpacket can carry has that index
+  pub index-back : (i : ℤ) → natAbs i < 2 ^ (M - T) → indexOf q M T (coefficientOf q M T i) ≡ i
+  unfolding indexOf coefficientOf
+  index-back i h = size-back (inverse q M T) (forward q M T) forward-zero i (forward-back q M T (natAbs i) h)
+
+  -- and so it has one
+  pub coefficient-one : (i j : ℤ) → natAbs i < 2 ^ (M - T) → natAbs j < 2 ^ (M - T) → coefficientOf q M T i ≡ coefficientOf q M T j → i ≡ j
+  coefficient-one i j hi hj e = sym (index-back i hi) ∙ ap (indexOf q M T) e ∙ index-back j hj
 
 -- ---- times 2 ^ Fq
 
@@ -104,14 +100,17 @@ pub scaled-small : (Fq k : ℕ) (c : ℤ) → natAbs c < 2 ^ k → natAbs (scale
 unfolding scaled
 scaled-small Fq k c h = rw (size-mul c (2 ^ Fq)) (shl-lt k Fq h)
 
-pub scaled-one : (Fq : ℕ) (x y : ℤ) → scaled Fq x ≡ scaled Fq y → x ≡ y
+-- dividing sizes by 2 ^ Fq takes it back
+pub scaled-back : (Fq : ℕ) (c : ℤ) → bySize (λ n. n / 2 ^ Fq) (scaled Fq c) ≡ c
 unfolding scaled
-scaled-one Fq x y e =
-    let m = 2 ^ Fq in
-    eqZ x y
-    (ap₂ (λ (a b : ℕ). a + b)
-    (eq-of-mul-eq-mul-right m (pow-pos Fq) (up x) (up y) (sym (mulZ x m .0) ∙ ap up e ∙ mulZ y m .0))
-    (eq-of-mul-eq-mul-right m (pow-pos Fq) (dn y) (dn x) (sym (mulZ y m .1) ∙ ap dn (sym e) ∙ mulZ x m .1)))
+scaled-back Fq c = ap (bySize (λ n. n / 2 ^ Fq)) (times c) ∙ size-back (λ n. n * 2 ^ Fq) (λ n. n / 2 ^ Fq) (zero-div (2 ^ Fq)) c (mul-div-cancel (natAbs c) (pow-pos Fq))
+  where
+    times : (c : ℤ) → c *ℤ pos (2 ^ Fq) ≡ bySize (λ n. n * 2 ^ Fq) c
+    times (pos n) = refl
+    times (negsuc n) = refl
+
+pub scaled-one : (Fq : ℕ) (x y : ℤ) → scaled Fq x ≡ scaled Fq y → x ≡ y
+scaled-one Fq x y e = sym (scaled-back Fq x) ∙ ap (bySize (λ n. n / 2 ^ Fq)) e ∙ scaled-back Fq y
 
 -- ---- sizes for words: of an index that a data subpacket can carry
 

@@ -5,8 +5,8 @@ use mathlib.Core.Bool.{Bool, true, false, and-false}
 use Prim.Native.Nat.{ℕ, zero, suc, _+_, _-_, _*_, _/_, _%_, _^_, _≤_, _<_, max}
 use native.Mathlib.Nat.{le-refl, le-of-lt, lt-of-not-le, lt-of-lt-of-le, zero-lt-suc, not-suc-le-zero, max-eq-left, max-eq-right, sub-zero, sub-add-cancel, pow-suc}
 use native.Mathlib.Nat.{zero-mul, one-mul, add-mul, suc-mul, mul-suc, mul-comm, mul-assoc, mul-right-comm, mul-le-mul-left, mul-le-mul-right, mul-lt-mul-of-pos-right}
-use native.Mathlib.Nat.{div-one, div-add-mod', mod-lt}
-use native.Mathlib.Decide.{decLe, decLt}
+use native.Mathlib.Nat.{div-one, zero-div, div-add-mod', mod-lt}
+use native.Mathlib.Decide.{decLe}
 use native.Mathlib.Omega.{arith}
 use borrow.Author.Tests.{lt-ltb, le-ltb, ne-eqb}
 use lib.Dec.{ltb}
@@ -293,62 +293,37 @@ inverse-exact false (suc M) zero h = deadzone-zero (suc M) 0
 inverse-exact false (suc M) (suc v) h = deadzone-on (suc M) 0 (suc v) (zero-lt-suc M) (zero-lt-suc v) ∙ omega arith
 inverse-exact true (suc M) v h = uniform-exact (suc M) v (zero-lt-suc M) h
 
--- ---- no two indices that M - T planes carry give one size
+-- ---- back and there: the forward quantiser takes the size of an index that M - T planes carry to that index
 
-deadzone-up : (M T v w : ℕ) → T < M → v < w → deadzone M T v < deadzone M T w
-deadzone-up M T zero w h l =
-    omega (arith, deadzone-zero M T, deadzone-on M T w h (omega arith), mul-le-mul-right (2 ^ T) l, one-mul (2 ^ T), pow-pos T)
-deadzone-up M T (suc v) w h l =
-    omega (
-      arith,
-      deadzone-on M T (suc v) h (zero-lt-suc v),
-      deadzone-on M T w h (omega arith),
-      mul-le-mul-right (2 ^ T) l,
-      suc-mul (suc v) (2 ^ T),
-      pow-pos T,
-    )
+deadzone-back : (M T v : ℕ) → T < M → deadzone M T v / 2 ^ T ≡ v
+deadzone-back M T zero h = ap (λ (n : ℕ). n / 2 ^ T) (deadzone-zero M T) ∙ zero-div (2 ^ T)
+deadzone-back M T (suc v) h =
+    ap (λ (n : ℕ). n / 2 ^ T) (deadzone-on M T (suc v) h (zero-lt-suc v)) ∙ digits-div (suc v) (omega (arith, pow-pos T))
 
--- a step of the index is 2 ^ (M + 1) over c, which is above 1
-uniform-up : (M T v w : ℕ) → T < M → v < w → w < 2 ^ (M - T) → uniform M T v < uniform M T w
-uniform-up M T v w h l hw = lt-of-not-le no-more
+-- D.5's half, 2 ^ M, makes good the rest of D.3's division, which is below 2 ^ M where T is above 0
+uniform-back : (M T v : ℕ) → suc T < M → v < 2 ^ (M - suc T) → uniformIndex M (suc T) (uniform M (suc T) v) ≡ v
+uniform-back M T v h hv =
+    let k = coded M (suc T) h in
+    let d : ℕ = uniform M (suc T) v in
+    let r = rounded M (suc T) d h in
+    let w = summed M (suc T) v h hv in
+    let less : w .rest < 2 ^ M = omega (arith, w .below, k .base, pow-mono {i = M - suc T + 1} {j = M} (omega arith)) in
+    one-quotient (uniformIndex M (suc T) d) (r .left) v (2 ^ M - w .rest) (r .below) (omega (arith, k .top, pow-pos M)) (omega (arith, r .sum, w .sum, less))
+
+pub forward-back : (q : Bool) (M T v : ℕ) → v < 2 ^ (M - T) → forward q M T (inverse q M T v) ≡ v
+unfolding forward inverse deadzoneIndex
+forward-back q M zero v h =
+    let e = inverse-exact q M v (rw sub-zero at h) in
+    ap (forward q M 0) e ∙ forward-exact q M v (rw sub-zero at h)
+forward-back q M (suc T) v h = pick q (decLe M (suc T))
   where
-    no-more : uniform M T w ≤ uniform M T v → ⊥
-    no-more g =
-        let k = coded M T h in
-        let a = summed M T v h (omega arith) in
-        let b = summed M T w h hw in
-        omega (
-          arith,
-          a .sum,
-          b .sum,
-          b .below,
-          mul-le-mul-right (k .c) g,
-          mul-le-mul-right (2 ^ (M + 1)) l,
-          suc-mul v (2 ^ (M + 1)),
-          k .base,
-          pow-mono {i = M - T + 1} {j = M + 1} (omega arith),
-        )
+    none : M ≤ suc T → v ≡ 0
+    none g =
+        let e : M - suc T ≡ 0 = omega arith in
+        lt-one (subst (λ (n : ℕ). v < 2 ^ n) e h)
 
-inverse-up : (q : Bool) (M T v w : ℕ) → T < M → v < w → w < 2 ^ (M - T) → inverse q M T v < inverse q M T w
-unfolding inverse
-inverse-up false M T v w h l hw = deadzone-up M T v w h l
-inverse-up true M T v w h l hw = uniform-up M T v w h l hw
-
-pub inverse-one : (q : Bool) (M T v w : ℕ) → v < 2 ^ (M - T) → w < 2 ^ (M - T) → inverse q M T v ≡ inverse q M T w → v ≡ w
-inverse-one q M T v w hv hw e = pick (decLe M T)
-  where
-    not-up : (a b : ℕ) → T < M → b < 2 ^ (M - T) → inverse q M T a ≡ inverse q M T b → b ≤ a
-    not-up a b h hb e = by (decLt a b)
-      where
-        by : Dec (a < b) → b ≤ a
-        by (yes l) = absurd (omega (arith, e, inverse-up q M T a b h l hb))
-        by (no n) = omega arith
-
-    pick : Dec (M ≤ T) → v ≡ w
-    pick (yes g) =
-        let e : M - T ≡ 0 = omega arith in
-        let none : 2 ^ (M - T) ≡ 1 = ap (λ (n : ℕ). 2 ^ n) e in
-        omega (arith, none)
-    pick (no g) =
-        let h = lt-of-not-le g in
-        omega (arith, not-up v w h hw e, not-up w v h hv (sym e))
+    pick : (q : Bool) → Dec (M ≤ suc T) → forward q M (suc T) (inverse q M (suc T) v) ≡ v
+    pick false (yes g) = ap (λ (n : ℕ). n / 2 ^ suc T) (deadzone-off M (suc T) v g) ∙ zero-div (2 ^ suc T) ∙ sym (none g)
+    pick true (yes g) = uniform-index-off M (suc T) (uniform M (suc T) v) g ∙ sym (none g)
+    pick false (no g) = deadzone-back M (suc T) v (lt-of-not-le g)
+    pick true (no g) = uniform-back M T v (lt-of-not-le g) h
