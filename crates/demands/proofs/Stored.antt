@@ -32,6 +32,7 @@ use Rattle.reader.specs.Steps.{Opened}
 use Rattle.reader.proofs.Openings.{settled}
 use Rattle.demands.specs.Stored.{shape, setting, beginning, β, precinctWith, truncationOf, planesOf, Index, Quantised}
 
+-- a coefficient has an index
 pub record Some (s : List ℕ) (i : ℕ) (k : Kind) (dx dy x y : ℕ) : Type 0 where
   pub index : ℤ
   pub stored : Index s i k dx dy x y index

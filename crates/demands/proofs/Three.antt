@@ -25,7 +25,7 @@ use Rattle.layout.specs.Bands.{Wc, Hc, N′x, N′y, band}
 use Rattle.layout.specs.Cells.{samples}
 use Rattle.planes.specs.Values.{Coefficients}
 use Rattle.planes.specs.Places.{Inside}
-use Rattle.planes.proofs.Laws.{placeNumber, samples-of-near-places, samples-of-near}
+use Rattle.planes.proofs.Laws.{samples-of-near-places, samples-of-near}
 use Rattle.distances.specs.Rule.{numberOf, componentNumber, distanceOf}
 use Rattle.distances.proofs.Rules.{distance-at}
 use Rattle.reader.specs.declared.page.Page.{Page}
@@ -35,7 +35,7 @@ use Rattle.reader.specs.Page.{headerOf, Reads}
 use Rattle.reader.specs.Steps.{Opened}
 use Rattle.reader.proofs.Openings.{colours}
 use Rattle.demands.specs.Stored.{shape, setting, β, truncationOf, planesOf, Quantised, scaledUp}
-use Rattle.demands.specs.Places.{ownNumber, colouredPlace, placeDistance}
+use Rattle.demands.specs.Places.{ownNumber, filteredPlace, colouredPlace, placeDistance}
 use Rattle.demands.proofs.Accepted.{page-read}
 use Rattle.demands.proofs.Stored.{Some, stored-some, largest-known, own, own-quantised}
 use Rattle.demands.proofs.Colours.{behind}
@@ -60,7 +60,7 @@ module _ {s : List ℕ} (o : Opened s (headerOf s)) (fine : decodedVerdict s (he
   samples-near-places i x y p =
       let h = headerOf s in
       samples-of-near-places (o .shape) (colours (o .accepted .ranges)) (h .picture .bw) (depthOf h) (ownNumber s) (colouredPlace s)
-      (λ x y. behind (h .picture .cpih) (λ i. placeNumber (shape s) (ownNumber s) i x y)) (coefficients s h) (scaledUp s C)
+      (λ x y. behind (h .picture .cpih) (λ i. filteredPlace s i x y)) (coefficients s h) (scaledUp s C)
       (λ i l k dx dy x y d. coefficient-near l d (truncationOf s i k dx dy x y) (omega arith)) i x y p
 
   -- with one number for each band: it is within its component's distance
@@ -84,6 +84,13 @@ module _ {s a a′ : List ℕ} {w w′ : List ℤ} {r : Page} (read : Reads s a 
   demand-three C q i x y p =
       let page = page-read read accepted in
       rw (page .distances, page .sample i x y p) (samples-near (page .opened) (page .fine) q i x y p)
+
+  -- the same place by place
+  pub demand-three-places : (C : Coefficients) → Quantised s C → (i x y : ℕ) → Inside (shape s) i x y
+      → Near (placeDistance s i x y) (getD a′ (samples (shape s) i + (y * Wc (shape s) i + x)) 0) (samplesFrom (headerOf s) (scaledUp s C) i x y)
+  demand-three-places C q i x y p =
+      let page = page-read read accepted in
+      rw (page .sample i x y p) (samples-near-places (page .opened) (page .fine) q i x y p)
 
   -- what it speaks of is there: every coefficient has an index, which `stored-one` shows to be one, and there are coefficients with these indices
   pub indices-there : (i : ℕ) → i < shape s .nc → (k : Kind) (dx dy x y : ℕ)

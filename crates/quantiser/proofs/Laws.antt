@@ -103,7 +103,9 @@ scaled-small Fq k c h = rw (size-mul c (2 ^ Fq)) (shl-lt k Fq h)
 -- dividing sizes by 2 ^ Fq takes it back
 pub scaled-back : (Fq : ℕ) (c : ℤ) → bySize (λ n. n / 2 ^ Fq) (scaled Fq c) ≡ c
 unfolding scaled
-scaled-back Fq c = ap (bySize (λ n. n / 2 ^ Fq)) (times c) ∙ size-back (λ n. n * 2 ^ Fq) (λ n. n / 2 ^ Fq) (zero-div (2 ^ Fq)) c (mul-div-cancel (natAbs c) (pow-pos Fq))
+scaled-back Fq c =
+    ap (bySize (λ n. n / 2 ^ Fq)) (times c)
+    ∙ size-back (λ n. n * 2 ^ Fq) (λ n. n / 2 ^ Fq) (zero-div (2 ^ Fq)) c (mul-div-cancel (natAbs c) (pow-pos Fq))
   where
     times : (c : ℤ) → c *ℤ pos (2 ^ Fq) ≡ bySize (λ n. n * 2 ^ Fq) c
     times (pos n) = refl

@@ -235,7 +235,8 @@ module _ (c : Setting) (p : Precinct) where
       by false own = h
 
   -- one that is at most m stays so, if the precinct's own T is no more where it holds the band
-  pub raised-most : (n b : ℕ) {m : ℕ} (tops : List ℕ) → (b < n → holds c p b ≡ true → T c p b ≤ m) → getD tops b 0 ≤ m → getD (raised c p n tops) b 0 ≤ m
+  pub raised-most : (n b : ℕ) {m : ℕ} (tops : List ℕ) → (b < n → holds c p b ≡ true → T c p b ≤ m) → getD tops b 0 ≤ m
+      → getD (raised c p n tops) b 0 ≤ m
   unfolding raised
   raised-most zero b tops own h = h
   raised-most (suc n) b {m} tops own h =
