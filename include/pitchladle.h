@@ -1,4 +1,4 @@
-/* Pitchladle: reads pages that are stored as JPEG XS (ISO/IEC 21122-1:2024), and says how far a sample may be from the scan.
+/* Pitchladle: reads pages that are stored as JPEG XS (ISO/IEC 21122-1:2024), and says how far a sample may be off.
  *
  * What a function promises here is proved, for every stream and whatever the lent buffers hold: crates/pitchladle and crates/reader have the
  * statements. It keeps no state, asks for no memory, and writes to nothing but the buffers that it is lent.
@@ -28,8 +28,9 @@ extern "C" {
  *   7  a bitplane count is not from 0 to 31
  *   8  a prediction or a raw flag is chosen where it may not be */
 
-/* One component of a page: its size in samples, the bits of a sample (8 to 16), and the distance. No sample of the component is further than its
- * distance from what the encoder's own coefficients would have given; a distance of 0 says that none is off. */
+/* One component of a page: its size in samples, the bits of a sample (8 to 16), and the distance. No sample of the component is further than its distance
+ * from the one that the page's whole-number coefficients gave before they were quantised, if that was done as D.4 or D.5 of the standard say. A distance of 0
+ * says that quantisation moved no sample; on pages with fractional bits (Bw 20) the rounding to whole coefficients before it is not counted. */
 struct pitchladle_component {
     uint64_t width, height, precision, distance;
 };

@@ -14,7 +14,10 @@ $compile examples/read.c "$archive" -o "$out/read"
 compare() {
     mkdir "$out/ours" "$out/theirs"
     "$bin/stream" "$@" >"$out/page.jxs"
-    $run "$out/read" "$out/page.jxs" "$out/ours/page" | head -n 1 >"$out/ours/answer"
+    status=0
+    $run "$out/read" "$out/page.jxs" "$out/ours/page" >"$out/record" || status=$?
+    [ "$status" -le 1 ] || { echo "stream $*: the example ended with status $status"; exit 1; }
+    head -n 1 "$out/record" >"$out/ours/answer"
     "$bin/page" --any --pictures "$out/theirs/page" <"$out/page.jxs" >"$out/theirs/answer"
     diff -r -q "$out/ours" "$out/theirs" || { echo "stream $*: $(cat "$out/ours/answer"), independent decoder $(cat "$out/theirs/answer")"; exit 1; }
     echo "stream $*: $(cat "$out/ours/answer"), same"

@@ -11,8 +11,11 @@ if [ "$(uname -m)" != x86_64 ]; then
     kit=$(dirname "$(dirname "$(realpath "$(command -v rt)")")")/on/$(uname -m)/toolchain
     program="$kit/bin/qemu-x86_64 $kit/lib/ld-linux-x86-64.so.2 --library-path $kit/lib $program"
 fi
-# says TEXT: what the program writes for its input
-says() { [ "$($program)" = "$1" ] || { echo "page program: not '$1'"; exit 1; }; }
+# says TEXT: what the program writes for its input, and a newline
+said=$(mktemp)
+trap 'rm -f "$said"' EXIT
+says() { $program >"$said" && printf '%s\n' "$1" | cmp - "$said" || { echo "page program: not '$1'"; exit 1; }; }
 says 'answer 1 at 0' </dev/null
+head -c 16384 /dev/zero | says 'answer 2 at 0'
 head -c 16385 /dev/zero | says 'input too long'
 "$bin/compare" "$bin/page" "$program" "$@"

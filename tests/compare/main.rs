@@ -162,8 +162,11 @@ fn judge(options: &Options, made: &Made, input: &Path, folder: &Path) -> io::Res
     let second = run(&options.second, input)?;
     let accepted = second.starts_with(b"answer 0 ");
     let refused = second.starts_with(b"answer ") && !accepted;
+    let too_long = second == b"input too long\n";
     let fault = if first != second {
         difference(&first, &second)
+    } else if !accepted && !refused && !too_long {
+        String::from("neither program answers")
     } else if made.sound && refused {
         format!("a sound stream is refused, {}", String::from_utf8_lossy(&second).trim_end())
     } else if accepted && made.exact.as_ref().map_or(false, |exact| !keeps_distance(&second, exact)) {
@@ -181,7 +184,10 @@ fn run(command: &str, input: &Path) -> io::Result<Vec<u8>> {
     let mut words = command.split_whitespace();
     let program = words.next().unwrap_or("");
     let output = Command::new(program).args(words).stdin(File::open(input)?).stderr(Stdio::inherit()).output()?;
-    Ok(output.stdout)
+    match output.status.code() {
+        Some(_) => Ok(output.stdout),
+        None => Err(io::Error::new(io::ErrorKind::Other, format!("{} was killed: {}", program, output.status))),
+    }
 }
 
 /// The first lines that differ.
