@@ -100,12 +100,6 @@ end x = (Done (x .0) (x .1), x .2)
 unfoldable pub lineCounts : List ℕ → List ℕ → Coding → Place → ℕ → ℕ → List ℤ → Left
 lineCounts s sig c p i z cells = run (turn s sig c p z) end (groups p) 0 (i, 0, cells)
 
--- document 01's number of an answer
-abbrev pub row : Line → ℕ
-row (Done next need) = 0
-row Cut = 6
-row High = 7
-
 -- ---- what the readers ask and answer
 
 -- the bound follows from M ≤ 31, and stands beside the number for the callers' sums

@@ -1,11 +1,10 @@
 -- The part of Annex C that counts bands: the precinct header (Table C.1) and the truncation position (Table C.12).
 use mathlib.Core.Bool.{cond}
-use Prim.Native.Nat.{ℕ, zero, suc, _+_, _*_, _-_, _/_, _^_, min}
+use Prim.Native.Nat.{ℕ, zero, suc, _+_, _*_, _-_, _^_, min}
 use lib.Dec.{ltb}
 use Rattle.whole.specs.Numbers.{ceilDiv}
 use Rattle.layout.specs.declared.Shape.{Shape}
 use Rattle.layout.specs.Bands.{NL, band-exists}
-use Rattle.layout.specs.Precincts.{largest, Npx, Npy, lines}
 
 -- Table C.1: how many of the bands below b have a field D[p,b]
 unfoldable pub modes : Shape → ℕ → ℕ
@@ -28,7 +27,3 @@ most-refinement s = 2 * NL s - 1
 -- the clamp at 0
 abbrev pub truncation : ℕ → ℕ → ℕ → ℕ → ℕ → ℕ
 truncation q r gain priority br = min (q - (gain + cond (ltb priority r) 1 0)) (2 ^ br - 1)
-
--- the largest of a band's truncation positions T[p] over the precincts that hold a coefficient of it: those with a line of it
-abbrev pub band-truncation : Shape → (ℕ → ℕ) → ℕ → ℕ → ℕ
-band-truncation s T β i = largest (λ p. cond (ltb 0 (lines s (p / Npx s) β i)) (T p) 0) (Npx s * Npy s)

@@ -22,10 +22,6 @@ use Rattle.packets.specs.declared.Precinct.{Precinct}
 use Rattle.packets.specs.Precincts.{D, T}
 use Rattle.packets.specs.Packets.{anyLine, head, past, packet}
 
--- what a precinct, a slice or a stream leaves: the verdict, and the cells
-abbrev pub refused : Verdict → List ℤ → Verdict × List ℤ
-refused v cells = (v, cells)
-
 module _ (s : List ℕ) (c : Setting) (row column at : ℕ) where
   -- Table C.1
   abbrev pub lprc : ℕ
@@ -89,10 +85,11 @@ module _ (s : List ℕ) (c : Setting) (row column at : ℕ) where
   unfoldable pub precinct : Bool → List ℤ → Verdict × List ℤ
   precinct top cells = packetsBy (first (headerChecks top)) cells
 
--- document 01, distance rule 1: a band's largest T so far, raised by a precinct that holds one of its coefficients
+-- a precinct that holds one of a band's coefficients: the band exists, and has a line there
 abbrev pub holds : Setting → Precinct → ℕ → Bool
 holds c p b = band-exists (c .shape) b && ltb 0 (lines (c .shape) (p .row) (b / c .shape .nc) (b % c .shape .nc))
 
+-- document 01, distance rule 1: a band's largest T so far, raised by such a precinct
 abbrev pub raisedBy : Setting → Precinct → ℕ → ℕ → ℕ
 raisedBy c p b top = cond (holds c p b) (max top (T c p b)) top
 
