@@ -73,6 +73,34 @@ pub struct Header {
     pub first_slice: usize,
 }
 
+impl Header {
+    /// A lossless header of 8-bit components as if it had been read, without columns and weights.
+    pub fn plain(wf: usize, hf: usize, nlx: u32, nly: u32, sampling: &[(usize, usize)]) -> Header {
+        Header {
+            wf,
+            hf,
+            cw: 0,
+            hsl: 1,
+            nc: sampling.len(),
+            bw: 8,
+            fq: 0,
+            br: 4,
+            cpih: 0,
+            nlx,
+            nly,
+            lh: false,
+            rl: false,
+            qpih: 0,
+            fs: false,
+            rm: false,
+            cdt: sampling.iter().map(|&(sx, sy)| CdtEntry { b: 8, sx, sy }).collect(),
+            wgt: Vec::new(),
+            caption: None,
+            first_slice: 0,
+        }
+    }
+}
+
 fn u16_at(s: &[u8], at: usize) -> u16 {
     u16::from_be_bytes([s[at], s[at + 1]])
 }
@@ -342,34 +370,8 @@ pub fn end_of_codestream(s: &[u8], at: usize) -> Result<(), Refusal> {
 }
 
 #[cfg(test)]
-pub(crate) mod tests {
+mod tests {
     use super::*;
-
-    /// A header of 8-bit components as if it had been read, without weights.
-    pub fn header(wf: usize, hf: usize, nlx: u32, nly: u32, sampling: &[(usize, usize)]) -> Header {
-        Header {
-            wf,
-            hf,
-            cw: 0,
-            hsl: 1,
-            nc: sampling.len(),
-            bw: 8,
-            fq: 0,
-            br: 4,
-            cpih: 0,
-            nlx,
-            nly,
-            lh: false,
-            rl: false,
-            qpih: 0,
-            fs: false,
-            rm: false,
-            cdt: sampling.iter().map(|&(sx, sy)| CdtEntry { b: 8, sx, sy }).collect(),
-            wgt: Vec::new(),
-            caption: None,
-            first_slice: 0,
-        }
-    }
 
     #[test]
     fn filters_join_at_least_two_samples() {

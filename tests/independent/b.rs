@@ -211,11 +211,11 @@ fn band(header: &Header, beta: usize, filter: &Filter, i: usize, shape: &Shape) 
 #[cfg(test)]
 mod tests {
     use super::*;
-    use crate::a::tests::header;
+    use crate::a::Header;
 
     /// The packets of the first precinct as Tables B.5 to B.9 print them: filter types, and line numbers λ by component.
     fn packets(nly: u32, sampling: [(usize, usize); 3]) -> Vec<(Vec<usize>, Vec<usize>)> {
-        let layout = Layout::new(&header(64, 64, 5, nly, &sampling));
+        let layout = Layout::new(&Header::plain(64, 64, 5, nly, &sampling));
         let packets = layout.packets(0).into_iter().map(|lines| {
             let band = |line: &Line| layout.bands[line.band].unwrap();
             let mut betas: Vec<usize> = lines.iter().map(|line| band(line).filter).collect();
@@ -289,7 +289,7 @@ mod tests {
 
     #[test]
     fn component_sizes_are_rounded_up() {
-        let layout = Layout::new(&header(5, 4, 1, 1, &QUARTER));
+        let layout = Layout::new(&Header::plain(5, 4, 1, 1, &QUARTER));
         assert_eq!((layout.shapes[1].width, layout.shapes[1].height), (3, 2));
     }
 
@@ -298,7 +298,7 @@ mod tests {
     fn lines_cover_every_band() {
         for (wf, hf, cw) in [(23, 7, 0), (70, 9, 1), (139, 13, 2)] {
             for sampling in [FULL, HALF, QUARTER] {
-                let mut header = header(wf, hf, 2, 2, &sampling);
+                let mut header = Header::plain(wf, hf, 2, 2, &sampling);
                 header.cw = cw;
                 let layout = Layout::new(&header);
                 let mut seen: Vec<Vec<u8>> =

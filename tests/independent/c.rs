@@ -399,12 +399,12 @@ fn signed(member: u32, planes: u32) -> i32 {
 #[cfg(test)]
 mod tests {
     use super::*;
-    use crate::a::tests::header;
+    use crate::a::Header;
 
     #[test]
     fn header_widths() {
-        assert!(!is_long(&header(10_917, 8, 1, 1, &[(1, 1); 3])));
-        assert!(is_long(&header(8_188, 8, 1, 1, &[(1, 1); 4])));
+        assert!(!is_long(&Header::plain(10_917, 8, 1, 1, &[(1, 1); 3])));
+        assert!(is_long(&Header::plain(8_188, 8, 1, 1, &[(1, 1); 4])));
     }
 
     #[test]

@@ -89,28 +89,7 @@ pub fn bounded(n: usize) -> Header {
 
 /// A lossless header of 8-bit components without columns, all bands alike, with long packet headers.
 fn plain(wf: usize, hf: usize, (nlx, nly): (u32, u32), sampling: &[(usize, usize)]) -> Header {
-    let mut header = Header {
-        wf,
-        hf,
-        cw: 0,
-        hsl: 1,
-        nc: sampling.len(),
-        bw: 8,
-        fq: 0,
-        br: 4,
-        cpih: 0,
-        nlx,
-        nly,
-        lh: true,
-        rl: false,
-        qpih: 0,
-        fs: false,
-        rm: false,
-        cdt: sampling.iter().map(|&(sx, sy)| CdtEntry { b: 8, sx, sy }).collect(),
-        wgt: Vec::new(),
-        caption: None,
-        first_slice: 0,
-    };
+    let mut header = Header { lh: true, ..Header::plain(wf, hf, nlx, nly, sampling) };
     header.wgt = vec![Weight { gain: 0, priority: 0 }; Layout::new(&header).existing()];
     header
 }

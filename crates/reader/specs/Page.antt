@@ -1,12 +1,10 @@
 -- The page: the answer, its record, and each lent cell, for every stream and every pair of lent buffers.
-use mathlib.Core.Bool.{false, cond}
+use mathlib.Core.Bool.{false}
 use mathlib.Core.List.{List, _++_}
 use mathlib.Core.Path.{_≡_}
 use Prim.Native.Nat.{ℕ, _*_}
-use lib.Dec.{ltb}
 use lib.IntN.{ℤ, pos}
 use lib.ListN.{length, drop, replicate}
-use Rattle.whole.specs.Cells.{listed}
 use Rattle.rows.specs.Rows.{first, then, answer, placeOf}
 use Rattle.rows.specs.declared.Verdict.{Verdict}
 use Rattle.rows.specs.declared.Verdict.the-variants.{Fine, Refused}
@@ -14,6 +12,7 @@ use Rattle.layout.specs.Bands.{Wc, Hc}
 use Rattle.header.specs.Header.{readingOf}
 use Rattle.header.specs.declared.header.Header.{Header}
 use Rattle.shapes.specs.Shapes.{shapeOf}
+use Rattle.distances.specs.Rule.{ofFour}
 use Rattle.reader.specs.declared.page.Page.{Page}
 use Rattle.reader.specs.Settings.{depthOf, N, roomChecks}
 use Rattle.reader.specs.Decoding.{handed, distancesFrom, decodedVerdict, tops, coefficients}
@@ -33,11 +32,7 @@ verdict s a w = then (lentVerdict s a w) (decodedVerdict s (headerOf s))
 
 -- ---- the record
 
--- of four components, 0 where there is none
-abbrev pub byComponent : Header → (ℕ → ℕ) → List ℕ
-byComponent h f = listed 4 (λ i. cond (ltb i (h .picture .nc)) (f i) 0)
-
--- 'success gives Lcod'
+-- 'for four components width, height, precision and distance. Unused components are all 0'; 'success gives Lcod'
 abbrev pub pageRead : Header → List ℕ → Page
 pageRead h distance =
     record {
@@ -45,9 +40,9 @@ pageRead h distance =
       place = h .picture .lcod;
       components = h .picture .nc;
       caption = h .caption .there;
-      width = byComponent h (Wc (shapeOf h));
-      height = byComponent h (Hc (shapeOf h));
-      precision = byComponent h (depthOf h);
+      width = ofFour (h .picture .nc) (Wc (shapeOf h));
+      height = ofFour (h .picture .nc) (Hc (shapeOf h));
+      precision = ofFour (h .picture .nc) (depthOf h);
       distance = distance;
     }
 
