@@ -4,8 +4,10 @@
  * statements. It keeps no state, asks for no memory, and writes to nothing but the buffers that it is lent.
  *
  * What the caller must see to, and nothing else does:
- *   - a pointer is valid for as many cells as the count behind it says, and aligned for its type; it is not null, even where the count is 0;
- *   - the buffers of one call do not overlap, and no other thread writes to them during the call;
+ *   - a pointer is valid for as many cells as the count behind it says, `page` and `part` for one struct, and aligned for its type; it is not null, even
+ *     where the count is 0;
+ *   - the buffers of one call do not overlap; during the call no other thread writes to any of them, or reads those that the call writes to: samples, work cells
+ *     and record or part;
  *   - the program is one for x86-64, linked with libpitchladle.a. */
 #ifndef PITCHLADLE_H
 #define PITCHLADLE_H
@@ -29,8 +31,9 @@ extern "C" {
  *   8  a prediction or a raw flag is chosen where it may not be */
 
 /* One component of a page: its size in samples, the bits of a sample (8 to 16), and the distance. No sample of the component is further than its distance
- * from the one that the page's whole-number coefficients gave before they were quantised, if that was done as D.4 or D.5 of the standard say. A distance of 0
- * says that quantisation moved no sample; on pages with fractional bits (Bw 20) the rounding to whole coefficients before it is not counted. */
+ * from the one that the page's whole-number coefficients gave before they were quantised, if that was done as D.4 or D.5 of the standard say and each coefficient
+ * was below 2^max(M, T) in size, as the bitplane counts M of D.6 make them (T is the truncation position). A distance of 0 says that quantisation moved no sample
+ * of such coefficients; on pages with fractional bits (Bw 20) the rounding to whole coefficients before it is not counted. */
 struct pitchladle_component {
     uint64_t width, height, precision, distance;
 };

@@ -1,4 +1,5 @@
--- A.1.2: bit strings stand in the stream with the left bit first, numerical values u(n) with the most significant bit first. Past a stretch's end every bit reads as 0.
+-- A.1.2: bit strings stand in the stream with the left bit first, numerical values u(n) with the most significant bit first. The standard says nothing of bits
+-- past a stretch's end. Here each reads as 0, so that readers are total; whether a field is there is a check of its own.
 use Prim.Native.Nat.{ℕ, zero, suc, _+_, _-_, _*_, _/_, _%_, _^_, _<_}
 use mathlib.Core.Path.{_≡_}
 use mathlib.Core.List.{List}

@@ -1,4 +1,5 @@
--- Fields of a stretch of bytes, a cursor over them, and the packet header.
+-- Fields of a stretch of bytes, a cursor over them, the packet header, and the groups of a line.
 pub mod Fields
 pub mod Cursors
 pub mod Packet
+pub mod Groups

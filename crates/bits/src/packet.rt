@@ -13,9 +13,9 @@ pub struct Widths {
 
 impl Widths {
     // Wf × Nc from which on the header is long.
-    pub const LONG_FROM: usize = 32752;
+    const LONG_FROM: usize = 32752;
 
-    pub fn short() -> Self
+    fn short() -> Self
         ensures { λ r. ⌜ r ≡ shortWidths ⌝ }
     {
         Widths {
@@ -25,7 +25,7 @@ impl Widths {
         }
     }
 
-    pub fn long() -> Self
+    fn long() -> Self
         ensures { λ r. ⌜ r ≡ longWidths ⌝ }
     {
         Widths {

@@ -1,14 +1,15 @@
 -- Worked examples of the definitions.
 use Prim.Native.Nat.{ℕ}
 use mathlib.Core.Path.{_≡_, refl}
-use mathlib.Core.Bool.{true, false}
+use mathlib.Core.Bool.{false}
 use mathlib.Core.List.{List, [], _∷_, map}
 use lib.IntN.{pos, negsuc}
 use Rattle.loops.specs.Run.{run}
 use Rattle.bits.specs.Fields.{bitAt, field}
 use Rattle.counts.specs.Codes.{ones, vlc}
 use Rattle.counts.specs.Groups.{counted, coded}
-use Rattle.counts.specs.Lines.{packed, unpack, turn, lineCounts, Left}
+use Rattle.bits.specs.Groups.{nibblesOf, packed}
+use Rattle.counts.specs.Lines.{unpack, turn, lineCounts, Left}
 use Rattle.counts.specs.declared.group.Coding.{Coding}
 use Rattle.counts.specs.declared.group.Mode.{Mode}
 use Rattle.counts.specs.declared.group.Mode.the-variants.{Raw, NoPrediction, Vertical}
@@ -26,7 +27,7 @@ place : Place
 place = record { first = 1; stride = 1; width = 3; area = 0; up = 1 }
 
 coding : Mode → ℕ → Coding
-coding mode br = record { mode = mode; flags = false; run = false; signs = true; t = 2; br = br }
+coding mode br = record { mode = mode; flags = false; run = false; fs = false; t = 2; br = br }
 
 one : Mode → ℕ → List ℕ → Left
 unfolding lineCounts coding place
@@ -35,10 +36,10 @@ one mode br s = lineCounts s [] (coding mode br) place 0 0 (packed 6 3 ∷ pos 0
 -- the code 1110: 3 more than T without prediction, 2 less than the count above with it; u(4) is 14
 three-ways : map (λ (mode : Mode). one mode 4 (0xe0 ∷ [])) (NoPrediction ∷ Vertical ∷ Raw ∷ [])
     ≡ (Done 4 4, packed 6 3 ∷ packed 5 2 ∷ []) ∷ (Done 4 3, packed 6 3 ∷ packed 4 2 ∷ []) ∷ (Done 4 13, packed 6 3 ∷ packed 14 2 ∷ []) ∷ []
-unfolding one lineCounts run turn unpack coded counted vlc ones bitAt field coding place
+unfolding one lineCounts run turn unpack coded counted vlc ones bitAt field nibblesOf coding place
 three-ways = refl
 
 -- 32 1-bits and the end: too many where Br = 4, cut where Br = 5
 too-many : map (λ (br : ℕ). one NoPrediction br (0xff ∷ 0xff ∷ 0xff ∷ 0xff ∷ []) .0) (4 ∷ 5 ∷ []) ≡ High ∷ Cut ∷ []
-unfolding one lineCounts run turn unpack coded counted vlc ones bitAt field coding place
+unfolding one lineCounts run turn unpack coded counted vlc ones bitAt field nibblesOf coding place
 too-many = refl

@@ -1,11 +1,11 @@
 -- Laws of a line of counts. Assumes nothing.
-use Prim.Native.Nat.{ℕ, _+_, _-_, _*_, _/_, _%_, _^_, _≤_, _<_, max}
+use Prim.Native.Nat.{ℕ, _+_, _*_, _/_, _%_, _^_, _≤_, _<_, max}
 use mathlib.Core.Path.{_≡_, refl, sym, ap, _∙_}
 use mathlib.Core.Bool.{Bool, true, false, cond}
 use mathlib.Core.List.{List}
 use native.Mathlib.Omega.{arith}
 use borrow.Author.Tests.{leb-true, leb-false}
-use lib.Dec.{leb, ltb}
+use lib.Dec.{leb}
 use lib.IntN.{ℤ, pos, negsuc, _+ℤ_}
 use lib.ListN.{length, set}
 use lib.Signed.{mag}
@@ -16,7 +16,8 @@ use Rattle.whole.proofs.Machine.{back64}
 use Rattle.loops.specs.Run.{go}
 use Rattle.counts.specs.Codes.{ones, vlc}
 use Rattle.counts.specs.Groups.{counted, coded, unpackVertical}
-use Rattle.counts.specs.Lines.{unpack, stored, turn, countCell, insignificant, heldM, heldT, above, held, packed, groups, nibbles, Ready}
+use Rattle.bits.specs.Groups.{Ncg, nibblesOf, packed, held, heldM, heldT}
+use Rattle.counts.specs.Lines.{unpack, stored, turn, countCell, insignificant, aboveCell, above, Ready}
 use Rattle.counts.specs.declared.group.Coding.{Coding}
 use Rattle.counts.specs.declared.group.Mode.{Mode}
 use Rattle.counts.specs.declared.group.Mode.the-variants.{Raw, NoPrediction, Vertical}
@@ -60,12 +61,12 @@ module _ (s : List ℕ) (i : ℕ) where
 
 -- ---- vertical prediction, as the code reads the cell above
 module _ (s sig : List ℕ) (c : Coding) (p : Place) (z g i : ℕ) (cells : List ℤ) {r : Group} {skip : Bool} {j h : ℕ} where
-  pub vertical-is : c .mode ≡ Vertical → skip ≡ insignificant sig c z g → j ≡ countCell p g
-      → mag (cell cells (j - p .up)) < 2 ^ 63 → h ≡ held (toZ w64 (ofZ w64 (cell cells (j - p .up))))
+  pub vertical-is : c .mode ≡ Vertical → skip ≡ insignificant sig c z g → j ≡ aboveCell p g
+      → mag (cell cells j) < 2 ^ 63 → h ≡ held (toZ w64 (ofZ w64 (cell cells j)))
       → r ≡ unpackVertical s c skip (h % 32) (h / 32 % 32) i → r ≡ unpack (c .mode) s sig c p z g i cells
   unfolding unpack
   vertical-is v k e b f q =
-      let same : h ≡ held (above p g cells) = f ∙ ap held (back64 (cell cells (j - p .up)) b) ∙ ap (λ (j : ℕ). held (cell cells (j - p .up))) e in
+      let same : h ≡ held (above p g cells) = f ∙ ap held (back64 (cell cells j) b) ∙ ap (λ (j : ℕ). held (cell cells j)) e in
       rw v
       (q ∙ ap (λ (h : ℕ). unpackVertical s c skip (h % 32) (h / 32 % 32) i) same
       ∙ ap (λ (b : Bool). unpackVertical s c b (heldM (above p g cells)) (heldT (above p g cells)) i) k)
@@ -77,25 +78,17 @@ module _ (s sig : List ℕ) (c : Coding) (p : Place) (z g i : ℕ) (cells : List
   turn-is need f = rw (sym e ∙ f)
 
   -- a count, as the code stores it
-  pub turn-counts : (need : ℕ) {m next k b : ℕ} {v : ℤ} → x ≡ Count m next → v ≡ packed m (c .t) → mag v < 2 ^ 63 → k ≡ countCell p g → b ≡ nibbles c m
+  pub turn-counts : (need : ℕ) {m next k b : ℕ} {v : ℤ} → x ≡ Count m next → v ≡ packed m (c .t) → mag v < 2 ^ 63 → k ≡ countCell p g → b ≡ nibblesOf m (c .t) (c .fs)
       → turn s sig c p z g (i, need, cells) ≡ go (next, need + b, set cells k (toZ w64 (ofZ w64 v)))
   turn-counts need {v = v} f a l k b = turn-is need f ∙ rw (back64 v l, a, k, b)
 
   pub count-sound : {m next : ℕ} → x ≡ Count m next → Sound s i (Count m next)
   count-sound f = rw (sym e ∙ f) at (unpack-sound s i (c .mode) sig c p z g cells)
 
--- ---- the nibbles of a group
-pub nibbles-few : (c : Coding) (m : ℕ) → m ≤ 31 → nibbles c m ≤ 32
-nibbles-few c m h = cond-by (λ (r : ℕ). r ≤ 32) (ltb (c .t) m) (λ e. omega (arith, sign (c .signs))) (λ e. omega arith)
-  where
-    sign : (b : Bool) → cond b 1 0 ≤ 1
-    sign true = omega arith
-    sign false = omega arith
-
 -- ---- the cells
 
 -- a group's cell is one of them
-pub cell-inside : {c : Coding} {p : Place} {bytes z n : ℕ} (g : ℕ) → Ready c p bytes z n → g < groups p → countCell p g < n
+pub cell-inside : {c : Coding} {p : Place} {bytes z n : ℕ} (g : ℕ) → Ready c p bytes z n → g < Ncg (p .width) → countCell p g < n
 cell-inside g h l = h .inside (4 * g) (omega arith)
 
 -- what a store keeps

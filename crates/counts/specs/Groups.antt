@@ -1,22 +1,16 @@
--- C.6.3 to C.6.6: the bitplane count of one code group, by the mode that Table C.8 chooses.
-use Prim.Native.Nat.{ℕ, _+_, _*_, _%_, _^_, _≤_, max}
+-- C.6.3 to C.6.6: the bitplane count of one code group.
+use Prim.Native.Nat.{ℕ, _+_, _*_, _^_, _≤_, max}
 use mathlib.Core.Path.{_≡_}
 use mathlib.Core.Bool.{Bool, cond}
 use mathlib.Core.List.{List}
-use lib.Dec.{leb, eqb}
+use lib.Dec.{leb}
 use lib.IntN.{ℤ, pos, negsuc, _+ℤ_, _-ℤ_}
 use lib.ListN.{length}
 use Rattle.bits.specs.Fields.{field}
 use Rattle.counts.specs.Codes.{ones, vlc}
 use Rattle.counts.specs.declared.group.Coding.{Coding}
-use Rattle.counts.specs.declared.group.Mode.{Mode}
-use Rattle.counts.specs.declared.group.Mode.the-variants.{Raw, NoPrediction, Vertical}
 use Rattle.counts.specs.declared.group.Group.{Group}
 use Rattle.counts.specs.declared.group.Group.the-variants.{Count, Cut, High}
-
--- Table C.8: Dr == 1; else (D & 1) == 0; else
-abbrev pub modeOf : ℕ → ℕ → Mode
-modeOf dr d = cond (eqb dr 1) Raw (cond (eqb (d % 2) 0) NoPrediction Vertical)
 
 -- M is 0 to 31, whatever Br is; any other is refused. The next code stands from bit `next` on
 unfoldable pub counted : ℤ → ℕ → Group

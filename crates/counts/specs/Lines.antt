@@ -1,16 +1,15 @@
 -- Table C.8: the bitplane counts of one line of one band, in the work cells.
-use Prim.Native.Nat.{ℕ, _+_, _-_, _*_, _/_, _%_, _^_, _≤_, _<_}
+use Prim.Native.Nat.{ℕ, _+_, _-_, _*_, _/_, _^_, _≤_, _<_}
 use mathlib.Core.Path.{_≡_}
-use mathlib.Core.Bool.{Bool, cond, _&&_}
+use mathlib.Core.Bool.{Bool, _&&_}
 use mathlib.Core.List.{List}
-use lib.Dec.{ltb, eqb}
-use lib.IntN.{ℤ, pos}
+use lib.Dec.{eqb}
+use lib.IntN.{ℤ}
 use lib.ListN.{set}
 use Rattle.loops.specs.Run.{Turn, go, stop, run}
 use Rattle.whole.specs.Cells.{cell}
-use Rattle.whole.specs.Numbers.{ceilDiv}
-use Rattle.whole.proofs.Linear.{up}
 use Rattle.bits.specs.Fields.{bitAt}
+use Rattle.bits.specs.Groups.{Ss, Ncg, nibblesOf, countCellOf, packed, heldM, heldT}
 use Rattle.counts.specs.Groups.{unpackRaw, unpackNopred, unpackVertical}
 use Rattle.counts.specs.declared.group.Coding.{Coding}
 use Rattle.counts.specs.declared.group.Mode.{Mode}
@@ -21,47 +20,22 @@ use Rattle.counts.specs.declared.Place.{Place}
 use Rattle.counts.specs.declared.Line.{Line}
 use Rattle.counts.specs.declared.Line.the-variants.{Done, Cut, High}
 
--- ---- a count cell
-
--- what a group's cell holds: its bitplane count M and its truncation position T
-abbrev pub packed : ℕ → ℕ → ℤ
-packed m t = pos (m + 32 * t)
-
--- M and T of a cell are read whatever stands in it: a negative number is read as 0
-abbrev pub held : ℤ → ℕ
-held z = up z
-
-abbrev pub heldM : ℤ → ℕ
-heldM z = held z % 32
-
-abbrev pub heldT : ℤ → ℕ
-heldT z = held z / 32 % 32
-
--- B.8: the code groups of a line, of Ng = 4 coefficients each
-abbrev pub groups : Place → ℕ
-groups p = ceilDiv (p .width) 4
-
--- the count cell of code group g stands `area` cells behind its first coefficient
+-- the count cell of code group g
 abbrev pub countCell : Place → ℕ → ℕ
-countCell p g = p .first + 4 * g * p .stride + p .area
-
--- ---- significance, one flag Z for Ss = 8 code groups
-
--- Table C.6, B.9: the flags of a line, where Dr == 0 and D & 2
-abbrev pub flagsIn : Mode → Coding → Place → ℕ
-flagsIn Raw c p = 0
-flagsIn NoPrediction c p = cond (c .flags) (ceilDiv (groups p) 8) 0
-flagsIn Vertical c p = cond (c .flags) (ceilDiv (groups p) 8) 0
+countCell p g = countCellOf (p .first) (p .stride) (p .area) g
 
 -- Tables C.15 and C.16: (D & 2) == 0 || Z[⌊g / Ss⌋] == 0 says that the Δm of group g is coded. The line's flags stand from bit z on
 abbrev pub insignificant : List ℕ → Coding → ℕ → ℕ → Bool
-insignificant sig c z g = c .flags && eqb (bitAt sig (z + g / 8)) 1
+insignificant sig c z g = c .flags && eqb (bitAt sig (z + g / Ss)) 1
 
 -- ---- a group in its place
 
 -- Table C.13: the predictors are M and T of the same group one line up
+abbrev pub aboveCell : Place → ℕ → ℕ
+aboveCell p g = countCell p g - p .up
+
 abbrev pub above : Place → ℕ → List ℤ → ℤ
-above p g cells = cell cells (countCell p g - p .up)
+above p g cells = cell cells (aboveCell p g)
 
 -- Table C.8: the count of group g, which stands at bit i of the stretch
 unfoldable pub unpack : Mode → List ℕ → List ℕ → Coding → Place → ℕ → ℕ → ℕ → List ℤ → Group
@@ -70,10 +44,6 @@ unpack NoPrediction s sig c p z g i cells = unpackNopred s c (insignificant sig 
 unpack Vertical s sig c p z g i cells = unpackVertical s c (insignificant sig c z g) (heldM (above p g cells)) (heldT (above p g cells)) i
 
 -- ---- the line
-
--- Table C.9: the nibbles of data of a group, which are M − T planes and, where Fs = 0, the signs before them
-abbrev pub nibbles : Coding → ℕ → ℕ
-nibbles c m = cond (ltb (c .t) m) (m - c .t + cond (c .signs) 1 0) 0
 
 -- the next bit, the nibbles so far, and the cells
 abbrev pub State : Type 0
@@ -85,7 +55,7 @@ Left = Line × List ℤ
 
 -- a group's count goes to its cell, and a refusal ends the line
 abbrev pub stored : Coding → ℕ → State → Group → Turn State Left
-stored c to x (Count m next) = go (next, x .1 + nibbles c m, set (x .2) to (packed m (c .t)))
+stored c to x (Count m next) = go (next, x .1 + nibblesOf m (c .t) (c .fs), set (x .2) to (packed m (c .t)))
 stored c to x CutCode = stop (Cut, x .2)
 stored c to x HighCode = stop (High, x .2)
 
@@ -98,16 +68,11 @@ end x = (Done (x .0) (x .1), x .2)
 
 -- Table C.8's loop over the line's groups, whose codes stand in the stretch s from bit i on
 unfoldable pub lineCounts : List ℕ → List ℕ → Coding → Place → ℕ → ℕ → List ℤ → Left
-lineCounts s sig c p i z cells = run (turn s sig c p z) end (groups p) 0 (i, 0, cells)
+lineCounts s sig c p i z cells = run (turn s sig c p z) end (Ncg (p .width)) 0 (i, 0, cells)
 
--- ---- what the readers ask and answer
+-- ---- what the reader asks
 
--- the bound follows from M ≤ 31, and stands beside the number for the callers' sums
-pub record Nibbles (c : Coding) (m r : ℕ) : Type 0 where
-  pub number : r ≡ nibbles c m
-  pub most : r ≤ 32
-
--- what the line's reader asks: a stretch of `bytes` bytes, and n cells that hold the line and, for vertical prediction, the line above it
+-- a stretch of `bytes` bytes, and n cells that hold the line and, for vertical prediction, the line above it
 pub record Ready (c : Coding) (p : Place) (bytes z n : ℕ) : Type 0 where
   pub br : c .br ≤ 5
   pub t : c .t ≤ 31

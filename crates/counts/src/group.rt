@@ -1,9 +1,4 @@
-// C.6.3 to C.6.6: the bitplane count of one code group.
-ghost use mathlib.Core.Path.{_≡_};
-ghost use Prim.Native.Nat.{_+_, _*_, _^_, _≤_, _<_, max};
-ghost use lib.IntN.{pos};
-ghost use lib.ListN.{length};
-ghost use Rattle.counts.specs.Groups.{modeOf, counted, coded, unpackRaw, unpackNopred, unpackVertical, Limit};
+// What is said of the counts of a code group: how they are coded, and what reading one finds.
 
 // The bitplane count coding modes.
 pub enum Mode {
@@ -12,28 +7,13 @@ pub enum Mode {
     Vertical,
 }
 
-impl Mode {
-    // The mode of a packet with the raw flag Dr[p,s] in a band with the coding mode D[p,b].
-    pub fn chosen(dr: usize, d: usize) -> Self
-        ensures { λ r. ⌜ r ≡ modeOf dr d ⌝ }
-    {
-        if dr == 1 {
-            Mode::Raw
-        } else if d % 2 == 0 {
-            Mode::NoPrediction
-        } else {
-            Mode::Vertical
-        }
-    }
-}
-
-// How the counts of a line are coded: `flags` where D[p,b] & 2, `run` where Rm = 1, T[p,b] and Br. `signs`, where Fs = 0, counts only for the
+// How the counts of a line are coded: `flags` where D[p,b] & 2, `run` where Rm = 1, T[p,b] and Br. `fs`, where Fs = 1, counts only for the
 // nibbles of data.
 pub struct Coding {
     pub mode: Mode,
     pub flags: bool,
     pub run: bool,
-    pub signs: bool,
+    pub fs: bool,
     pub t: usize,
     pub br: usize,
 }
@@ -43,101 +23,4 @@ pub enum Group {
     Count(usize, usize),
     Cut,
     High,
-}
-
-// A count m, if it is one.
-fn in_range(m: usize, next: usize) -> Group
-    ensures { λ r. ⌜ r ≡ counted (pos m) next ⌝ }
-{
-    if m <= 31 {
-        Group::Count(m, next)
-    } else {
-        Group::High
-    }
-}
-
-// 2^(Br+1), the number of 1-bits that is too many.
-fn too_many(br: usize) -> usize
-    requires { ⌜ br ≤ 5 ⌝ }
-    ensures { λ r. ⌜ Limit br r ⌝ }
-{
-    1 << (br + 1)
-}
-
-// The predictor mtop, moved by the code at the bit i.
-fn read_code(s: &[u8], br: usize, mtop: usize, t: usize, i: usize) -> Group
-    requires { ⌜ (length (now s) < 2 ^ 56) × (br ≤ 5) × (mtop ≤ 31) ⌝ }
-    ensures { λ r. ⌜ r ≡ coded (now (s .entry)) br mtop t i ⌝ }
-{
-    let all = 8 * s.len();
-    if all <= i {
-        return Group::Cut;
-    }
-    let limit = too_many(br);
-    let n = crate::code::ones_from(s, i, limit);
-    if limit <= n {
-        return Group::High;
-    }
-    if all <= i + n {
-        return Group::Cut;
-    }
-    in_range(crate::code::moved(mtop, t, n), i + n + 1)
-}
-
-// Table C.14.
-pub fn read_raw(s: &[u8], br: usize, i: usize) -> Group
-    requires { ⌜ (length (now s) < 2 ^ 56) × (br ≤ 5) ⌝ }
-    ensures { λ r. ⌜ r ≡ unpackRaw (now (s .entry)) br i ⌝ }
-{
-    let all = 8 * s.len();
-    if all < i {
-        return Group::Cut;
-    }
-    if all - i < br {
-        return Group::Cut;
-    }
-    in_range(bits::field(s, i, br), i + br)
-}
-
-// Table C.16.
-pub fn read_nopred(s: &[u8], c: Coding, insignificant: bool, i: usize) -> Group
-    requires { ⌜ (length (now s) < 2 ^ 56) × (c .br ≤ 5) × (c .t ≤ 31) ⌝ }
-    ensures { λ r. ⌜ r ≡ unpackNopred (now (s .entry)) c insignificant i ⌝ }
-{
-    if insignificant {
-        in_range(c.t, i)
-    } else {
-        read_code(s, c.br, c.t, c.t, i)
-    }
-}
-
-// The larger of two numbers.
-fn larger(a: usize, b: usize) -> usize
-    ensures { λ r. ⌜ r ≡ max a b ⌝ }
-{
-    if a < b { b } else { a }
-}
-
-// Table C.15, below a group with the count m_above and the truncation position t_above.
-pub fn read_vertical(
-    s: &[u8],
-    c: Coding,
-    insignificant: bool,
-    m_above: usize,
-    t_above: usize,
-    i: usize,
-) -> Group
-    requires { ⌜ (length (now s) < 2 ^ 56) × (c .br ≤ 5) × (c .t ≤ 31) × («m_above» ≤ 31) × («t_above» ≤ 31) ⌝ }
-    ensures { λ r. ⌜ r ≡ unpackVertical (now (s .entry)) c insignificant «m_above» «t_above» i ⌝ }
-{
-    let mtop = larger(m_above, larger(c.t, t_above));
-    if insignificant {
-        if c.run {
-            in_range(c.t, i)
-        } else {
-            in_range(mtop, i)
-        }
-    } else {
-        read_code(s, c.br, mtop, c.t, i)
-    }
 }

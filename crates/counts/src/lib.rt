@@ -1,6 +1,7 @@
 // Annex C: the bitplane counts of one line of one band, from their stretch of a packet into the work cells.
-pub mod code;
+mod code;
 pub mod group;
+mod unpack;
 
 use crate::group::Coding;
 use crate::group::Group;
@@ -8,7 +9,8 @@ use crate::group::Mode;
 ghost use mathlib.Core.Path.{_≡_};
 ghost use Prim.Native.Nat.{_+_, _*_, _/_, _%_, _^_, _≤_, _<_};
 ghost use lib.ListN.{length};
-ghost use Rattle.counts.specs.Lines.{held, packed, groups, countCell, flagsIn, insignificant, unpack, Nibbles, lineCounts, Ready};
+ghost use Rattle.bits.specs.Groups.{Ncg, held, packed, Takes};
+ghost use Rattle.counts.specs.Lines.{countCell, insignificant, unpack, lineCounts, Ready};
 
 // Where the cells of a line lie: coefficient x at `first` + x `stride`, for x below `width`, its count `area` cells behind it, and the
 // same coefficient one line up `up` cells before it.
@@ -46,16 +48,16 @@ fn to_hold(m: usize, t: usize) -> i64
 // How many nibbles of data the group with the count m takes.
 fn group_nibbles(c: Coding, m: usize) -> usize
     requires { ⌜ m ≤ 31 ⌝ }
-    ensures { λ r. ⌜ Nibbles c m r ⌝ }
+    ensures { λ r. ⌜ Takes m (c .t) (c .fs) r ⌝ }
 {
     let t = c.t;
     if m <= t {
         return 0;
     }
-    if c.signs {
-        return m - t + 1;
+    if c.fs {
+        return m - t;
     }
-    m - t
+    m - t + 1
 }
 
 // The count cell of the code group g.
@@ -64,23 +66,6 @@ fn count_cell(p: Place, g: usize) -> usize
     ensures { λ r. ⌜ r ≡ countCell p g ⌝ }
 {
     p.first + 4 * g * p.stride + p.area
-}
-
-// How many significance flags the line has: one for eight code groups, which are 32 coefficients.
-pub fn line_flags(c: Coding, p: Place) -> usize
-    requires { ⌜ p .width < 2 ^ 56 ⌝ }
-    ensures { λ r. ⌜ r ≡ flagsIn (c .mode) c p ⌝ }
-{
-    if c.flags {
-        let mode = c.mode;
-        match mode {
-            Mode::Raw => 0,
-            Mode::NoPrediction => (p.width + 31) / 32,
-            Mode::Vertical => (p.width + 31) / 32,
-        }
-    } else {
-        0
-    }
 }
 
 // Is the code group g in a significance group whose flag is set?
@@ -106,16 +91,16 @@ fn group_at(
     g: usize,
     i: usize,
 ) -> Group
-    requires { ⌜ Ready c p (length (now stretch)) z (length (now cells)) × (g < groups p) ⌝ }
+    requires { ⌜ Ready c p (length (now stretch)) z (length (now cells)) × (g < Ncg (p .width)) ⌝ }
     ensures { λ r. ⌜ r ≡ unpack (c .mode) (now (stretch .entry)) (now (sig .entry)) c p z g i (now (cells .entry)) ⌝ }
 {
     let mode = c.mode;
     match mode {
-        Mode::Raw => group::read_raw(stretch, c.br, i),
-        Mode::NoPrediction => group::read_nopred(stretch, c, is_insignificant(sig, c, z, g), i),
+        Mode::Raw => unpack::read_raw(stretch, c.br, i),
+        Mode::NoPrediction => unpack::read_nopred(stretch, c, is_insignificant(sig, c, z, g), i),
         Mode::Vertical => {
             let above = held(cells[count_cell(p, g) - p.up]);
-            group::read_vertical(
+            unpack::read_vertical(
                 stretch,
                 c,
                 is_insignificant(sig, c, z, g),

@@ -25,6 +25,7 @@ use Rattle.reader.specs.Steps.{Opened}
 use Rattle.reader.proofs.Openings.{opened}
 use Rattle.reader.proofs.Leaving.{handed-length}
 use Rattle.demands.specs.Stored.{shape}
+use Rattle.demands.specs.Demands.{sampleAt}
 
 -- the record's answer is that of the verdict
 answered : (v : Verdict) (h : Header) (d : List ℕ) → pageBy v h d .answer ≡ answer v
@@ -51,8 +52,7 @@ pub record PageRead (s a′ : List ℕ) (r : Page) : Type 0 where
   pub fine : decodedVerdict s (headerOf s) ≡ Fine
   pub distances : r .distance ≡ distancesFrom (headerOf s) (tops s (headerOf s))
   -- each sample is that of the decoded coefficients
-  pub sample : (i x y : ℕ) → Inside (shape s) i x y
-      → getD a′ (samples (shape s) i + (y * Wc (shape s) i + x)) 0 ≡ samplesFrom (headerOf s) (coefficients s (headerOf s)) i x y
+  pub sample : (i x y : ℕ) → Inside (shape s) i x y → sampleAt s a′ i x y ≡ samplesFrom (headerOf s) (coefficients s (headerOf s)) i x y
 
 pub page-read : {s a a′ : List ℕ} {w w′ : List ℤ} {r : Page} → Reads s a w r a′ w′ → r .answer ≡ 0 → PageRead s a′ r
 unfolding verdict handed
@@ -77,8 +77,7 @@ page-read {s} {a} {a′} {w} {w′} {r} q zero =
     made : a′ ≡ new ++ drop (length new) a
     made = q .samples ∙ (λ i. samplesBy (all i) new a)
 
-    sample : (i x y : ℕ) → Inside (shape s) i x y
-        → getD a′ (samples (shape s) i + (y * Wc (shape s) i + x)) 0 ≡ samplesFrom h (coefficients s h) i x y
+    sample : (i x y : ℕ) → Inside (shape s) i x y → sampleAt s a′ i x y ≡ samplesFrom h (coefficients s h) i x y
     sample i x y p =
         let j = samples (shape s) i + (y * Wc (shape s) i + x) in
         let inside : j < length new =

@@ -1,25 +1,22 @@
--- Demand 3's last part: if every T is 0 then every distance is 0, and the sample that is read is the sample of the coefficients. The names are those of
--- `demand-three`; `Uncut s` says that every T is 0. Assumes nothing.
+-- Demand 3's last part holds of every page that is read: if every T is 0 then every distance is 0, and the sample that is read is the sample of the
+-- coefficients. Assumes nothing.
 use mathlib.Core.Path.{_≡_, ap, _∙_}
 use mathlib.Core.List.{List}
-use Prim.Native.Nat.{ℕ, _+_, _*_}
+use Prim.Native.Nat.{ℕ}
 use native.Mathlib.Omega.{arith}
 use lib.IntN.{ℤ}
 use lib.ListN.{getD}
 use Rattle.rows.specs.declared.Verdict.the-variants.{Fine}
-use Rattle.layout.specs.Bands.{Wc}
-use Rattle.layout.specs.Cells.{samples}
 use Rattle.slices.proofs.Largest.{tops-most}
-use Rattle.planes.specs.Values.{Coefficients}
-use Rattle.planes.specs.Places.{Inside}
 use Rattle.distances.proofs.Rules.{distances-exact}
 use Rattle.reader.specs.declared.page.Page.{Page}
 use Rattle.reader.specs.Settings.{depthOf}
-use Rattle.reader.specs.Decoding.{samplesFrom, distancesFrom, decoded, decodedVerdict, tops}
+use Rattle.reader.specs.Decoding.{distancesFrom, decoded, decodedVerdict, tops}
 use Rattle.reader.specs.Page.{headerOf, Reads}
 use Rattle.reader.proofs.Decoded.{none-yet}
-use Rattle.demands.specs.Stored.{shape, setting, beginning, Quantised, scaledUp}
+use Rattle.demands.specs.Stored.{shape, setting, beginning}
 use Rattle.demands.specs.Uncut.{Uncut}
+use Rattle.demands.specs.Demands.{Exact}
 use Rattle.demands.proofs.Accepted.{PageRead, page-read}
 use Rattle.demands.proofs.Three.{demand-three}
 
@@ -40,16 +37,12 @@ distances-none {s} page uncut i =
 
 -- ---- the page is exact
 
-pub record Exact (s a′ : List ℕ) (r : Page) : Type 0 where
-  pub distance : (i : ℕ) → getD (r .distance) i 0 ≡ 0
-  pub sample : (C : Coefficients) → Quantised s C → (i x y : ℕ) → Inside (shape s) i x y
-      → getD a′ (samples (shape s) i + (y * Wc (shape s) i + x)) 0 ≡ samplesFrom (headerOf s) (scaledUp s C) i x y
-
+-- so where no plane was cut off, the page is that of the coefficients before quantisation
 pub exact : {s a a′ : List ℕ} {w w′ : List ℤ} {r : Page} → Reads s a w r a′ w′ → r .answer ≡ 0 → Uncut s → Exact s a′ r
 exact {s} {a′ = a′} {r = r} read accepted uncut =
     record {
       distance = none;
-      sample = λ C q i x y p. let near = demand-three read accepted C q i x y p in omega (arith, none i, near .over, near .under);
+      sample = λ C q i x y p. let near = demand-three read accepted .near C q i x y p in omega (arith, none i, near .over, near .under);
     }
   where
     none : (i : ℕ) → getD (r .distance) i 0 ≡ 0

@@ -1,13 +1,11 @@
--- Demand 1: 'every stream, damaged or foreign, is read or refused by a number of document 01, with the place. A refused page leaves the sample buffer
--- untouched, and the work buffer as document 01 states'. Assumes nothing.
-use mathlib.Core.Path.{_≡_, refl, sym, ap, _∙_, subst}
-use mathlib.Core.List.{List, _++_}
-use Prim.Native.Nat.{ℕ, _*_, _≤_}
+-- Demand 1 holds of every reading: the answer is a number of document 01 with a place in the stream, and a refused page leaves the samples. Assumes nothing.
+use mathlib.Core.Path.{_≡_, refl, sym, _∙_, subst}
+use mathlib.Core.List.{List}
+use Prim.Native.Nat.{ℕ, _≤_}
 use native.Mathlib.Omega.{arith}
-use lib.IntN.{ℤ, pos}
-use lib.ListN.{length, drop, replicate}
+use lib.IntN.{ℤ}
+use lib.ListN.{length}
 use Rattle.rows.specs.Rows.{answer, first, then}
-use Rattle.rows.specs.declared.Check.{Check}
 use Rattle.rows.specs.declared.Verdict.{Verdict}
 use Rattle.rows.specs.declared.Verdict.the-variants.{Fine, Refused}
 use Rattle.rows.proofs.Tables.{then-fine, answer-most}
@@ -16,26 +14,14 @@ use Rattle.header.specs.Header.{readingOf}
 use Rattle.header.specs.declared.header.Header.{Header}
 use Rattle.header.proofs.Sites.{header-inside}
 use Rattle.slices.proofs.Sites.{stream-inside}
-use Rattle.reader.specs.Settings.{N, roomChecks}
+use Rattle.reader.specs.Settings.{roomChecks}
 use Rattle.reader.specs.Decoding.{decoded, decodedVerdict}
-use Rattle.reader.specs.Page.{headerOf, lentVerdict, verdict, pageBy, samplesBy, workBy, Reads}
+use Rattle.reader.specs.Page.{headerOf, lentVerdict, verdict, pageBy, samplesBy, Reads}
 use Rattle.reader.specs.declared.page.Page.{Page}
 use Rattle.reader.proofs.Openings.{opened}
 use Rattle.demands.specs.Stored.{setting, beginning}
+use Rattle.demands.specs.Demands.{One}
 use Rattle.demands.proofs.Accepted.{answer-of, header-fine}
-
--- ---- the statement
-
-pub record One (s a : List ℕ) (w : List ℤ) (r : Page) (a′ : List ℕ) (w′ : List ℤ) : Type 0 where
-  -- a number of document 01, 0 to 8, and a place in the stream
-  pub answer : r .answer ≤ 8
-  pub place : r .place ≤ length s
-  -- a refused page leaves every sample cell
-  pub samples : (r .answer ≡ 0 → ⊥) → a′ ≡ a
-  -- the work cells are unchanged until row 5 has passed; from then on the first 2N are 0 and the rest unchanged
-  pub work : w′ ≡ workBy (lentVerdict s (length a) (length w)) (2 * N (headerOf s)) w
-
--- ---- the proof
 
 -- behind an accepted header every place is in the stream
 module _ (s : List ℕ) (a w : ℕ) where
@@ -64,6 +50,7 @@ kept : (v : Verdict) (new a : List ℕ) → (answer v ≡ 0 → ⊥) → samples
 kept Fine new a some = absurd (some refl)
 kept (Refused c) new a some = refl
 
+-- so a stream of any bytes gets one of nine answers, and a refusal leaves no trace in the samples
 pub demand-one : {s a a′ : List ℕ} {w w′ : List ℤ} {r : Page} → Reads s a w r a′ w′ → One s a w r a′ w′
 demand-one {s} {a} {w = w} reads =
     let v = verdict s (length a) (length w) in

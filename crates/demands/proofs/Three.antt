@@ -1,15 +1,8 @@
--- Demand 3, whole: every sample that is read is within its component's distance of the sample that the coefficients before quantisation give.
---
--- `Reads s a w r a′ w′` is the contract of `read`: from the stream s and the lent cells a and w it leaves the record r and the cells a′ and w′.
--- `Quantised s C` says that C are whole-number coefficients, one for each position of each band, each of size below 2^max(M, T) with its own group's M
--- and its own precinct and band's T, that the page's forward quantiser takes to the indices stored. `indices-there`, `stored-one` and
--- `coefficients-there` show that each coefficient of an accepted page has one index, and that there are such C.
--- `scaledUp s C` is ×2^Fq, and `samplesFrom` Annex E, F.3 where Cpih is 1, and G.3: the definition by which `read`'s own samples are given.
--- `r .distance` is the record's distance, document 01's rule (`distancesFrom`), and `Near e m n` says that m and n differ by at most e.
--- `Inside (shape s) i x y` is column x and row y of component i, whose samples begin behind `samples (shape s) i` others. Assumes nothing.
+-- Demand 3 holds of every page that is read: each sample is within its component's distance of the sample that the coefficients before quantisation give, and
+-- within the distance of its own place. Assumes nothing.
 use mathlib.Core.Path.{_≡_, refl}
 use mathlib.Core.List.{List}
-use Prim.Native.Nat.{ℕ, _+_, _*_, _≤_, _<_}
+use Prim.Native.Nat.{ℕ, _≤_, _<_}
 use native.Mathlib.Omega.{arith}
 use lib.IntN.{ℤ}
 use lib.ListN.{getD}
@@ -22,7 +15,6 @@ use Rattle.quantiser.proofs.Laws.{band-within}
 use Rattle.wavelet.specs.Transform.{Kind}
 use Rattle.wavelet.specs.Bands.{Coefficient}
 use Rattle.layout.specs.Bands.{Wc, Hc, N′x, N′y, band}
-use Rattle.layout.specs.Cells.{samples}
 use Rattle.planes.specs.Values.{Coefficients}
 use Rattle.planes.specs.Places.{Inside}
 use Rattle.planes.proofs.Laws.{samples-of-near-places, samples-of-near}
@@ -36,8 +28,9 @@ use Rattle.reader.specs.Steps.{Opened}
 use Rattle.reader.proofs.Openings.{colours}
 use Rattle.demands.specs.Stored.{shape, setting, β, truncationOf, planesOf, Quantised, scaledUp}
 use Rattle.demands.specs.Places.{ownNumber, filteredPlace, colouredPlace, placeDistance}
+use Rattle.demands.specs.Demands.{Three}
 use Rattle.demands.proofs.Accepted.{page-read}
-use Rattle.demands.proofs.Stored.{Some, stored-some, largest-known, own, own-quantised}
+use Rattle.demands.proofs.Stored.{coefficient-is, largest-known, own-quantised}
 use Rattle.demands.proofs.Colours.{behind}
 
 module _ {s : List ℕ} (o : Opened s (headerOf s)) (fine : decodedVerdict s (headerOf s) ≡ Fine) {C : Coefficients} (q : Quantised s C) where
@@ -50,11 +43,11 @@ module _ {s : List ℕ} (o : Opened s (headerOf s)) (fine : decodedVerdict s (he
       let T = truncationOf s i k dx dy x y in
       let c = C i k dx dy x y in
       let u = setting s .uniform in
-      rw (q .gives i h k dx dy x y d .is)
+      rw (coefficient-is o fine h d, ← q .gives i h k dx dy x y d)
       (within-swap (band-within u M T U (setting s .fq) c (indexOf u M T c) most (q .small i h k dx dy x y d) refl))
 
   -- place by place: a sample is within the distance that the coefficients' own T give its place
-  pub samples-near-places : (i x y : ℕ) → Inside (shape s) i x y
+  samples-near-places : (i x y : ℕ) → Inside (shape s) i x y
       → Near (placeDistance s i x y) (samplesFrom (headerOf s) (coefficients s (headerOf s)) i x y) (samplesFrom (headerOf s) (scaledUp s C) i x y)
   unfolding samplesFrom
   samples-near-places i x y p =
@@ -64,7 +57,7 @@ module _ {s : List ℕ} (o : Opened s (headerOf s)) (fine : decodedVerdict s (he
       (λ i l k dx dy x y d. coefficient-near l d (truncationOf s i k dx dy x y) (omega arith)) i x y p
 
   -- with one number for each band: it is within its component's distance
-  pub samples-near : (i x y : ℕ) → Inside (shape s) i x y
+  samples-near : (i x y : ℕ) → Inside (shape s) i x y
       → Near (getD (distancesFrom (headerOf s) (tops s (headerOf s))) i 0) (samplesFrom (headerOf s) (coefficients s (headerOf s)) i x y)
       (samplesFrom (headerOf s) (scaledUp s C) i x y)
   unfolding samplesFrom distancesFrom distanceOf componentNumber
@@ -78,24 +71,12 @@ module _ {s : List ℕ} (o : Opened s (headerOf s)) (fine : decodedVerdict s (he
 
 -- ---- demand 3
 
-module _ {s a a′ : List ℕ} {w w′ : List ℤ} {r : Page} (read : Reads s a w r a′ w′) (accepted : r .answer ≡ 0) where
-  pub demand-three : (C : Coefficients) → Quantised s C → (i x y : ℕ) → Inside (shape s) i x y
-      → Near (getD (r .distance) i 0) (getD a′ (samples (shape s) i + (y * Wc (shape s) i + x)) 0) (samplesFrom (headerOf s) (scaledUp s C) i x y)
-  demand-three C q i x y p =
-      let page = page-read read accepted in
-      rw (page .distances, page .sample i x y p) (samples-near (page .opened) (page .fine) q i x y p)
-
-  -- the same place by place
-  pub demand-three-places : (C : Coefficients) → Quantised s C → (i x y : ℕ) → Inside (shape s) i x y
-      → Near (placeDistance s i x y) (getD a′ (samples (shape s) i + (y * Wc (shape s) i + x)) 0) (samplesFrom (headerOf s) (scaledUp s C) i x y)
-  demand-three-places C q i x y p =
-      let page = page-read read accepted in
-      rw (page .sample i x y p) (samples-near-places (page .opened) (page .fine) q i x y p)
-
-  -- what it speaks of is there: every coefficient has an index, which `stored-one` shows to be one, and there are coefficients with these indices
-  pub indices-there : (i : ℕ) → i < shape s .nc → (k : Kind) (dx dy x y : ℕ)
-      → Coefficient (Wc (shape s) i) (Hc (shape s) i) (N′x (shape s) i) (N′y (shape s) i) k dx dy x y → Some s i k dx dy x y
-  indices-there i h k dx dy x y d = let page = page-read read accepted in stored-some (page .opened) (page .fine) h d
-
-  pub coefficients-there : Quantised s (own s)
-  coefficients-there = let page = page-read read accepted in own-quantised s (page .opened) (page .fine)
+-- so the record tells how far each sample can be off, whatever the quantiser dropped
+pub demand-three : {s a a′ : List ℕ} {w w′ : List ℤ} {r : Page} → Reads s a w r a′ w′ → r .answer ≡ 0 → Three s a′ r
+demand-three {s} read accepted =
+    let page = page-read read accepted in
+    record {
+      near = λ C q i x y p. rw (page .distances, page .sample i x y p) (samples-near (page .opened) (page .fine) q i x y p);
+      near-place = λ C q i x y p. rw (page .sample i x y p) (samples-near-places (page .opened) (page .fine) q i x y p);
+      some = own-quantised s (page .opened) (page .fine);
+    }

@@ -1,5 +1,6 @@
--- What the customer's demands speak of.
+-- The customer's demands, and what they speak of.
 pub mod Stored
 pub mod Table
 pub mod Uncut
 pub mod Places
+pub mod Demands

@@ -1,46 +1,61 @@
--- What an accepted page stores of each coefficient, and the coefficients that demand 3 speaks of. A coefficient is that of component i, in a band with the
--- letters k and the depths dx and dy, in its column x and row y.
+-- What an accepted page stores of each coefficient, and the coefficients that demand 3 speaks of: definitions of the stream alone. A coefficient is that of
+-- component i, in a band with the letters k and the depths dx and dy, in its column x and row y.
 use mathlib.Core.Path.{_≡_}
+use mathlib.Core.Bool.{true}
 use mathlib.Core.List.{List}
-use Prim.Native.Nat.{ℕ, _+_, _-_, _*_, _/_, _^_, _<_, max}
+use Prim.Native.Nat.{ℕ, _+_, _-_, _*_, _/_, _%_, _^_, _<_, max}
 use lib.IntN.{ℤ, pos, natAbs}
 use lib.ListN.{replicate}
-use Rattle.whole.specs.Cells.{cell}
-use Rattle.quantiser.specs.Inverse.{coefficientOf, scaled, Carried}
+use Rattle.whole.specs.Numbers.{ceilDiv}
+use Rattle.quantiser.specs.Inverse.{coefficientOf, scaled}
 use Rattle.quantiser.specs.Forward.{indexOf}
 use Rattle.wavelet.specs.Transform.{Kind}
 use Rattle.wavelet.specs.Bands.{Coefficient}
 use Rattle.layout.specs.declared.Shape.{Shape}
 use Rattle.layout.specs.Bands.{sx, sy, Wc, Hc, N′x, N′y, depth, dx as across, band}
 use Rattle.layout.specs.Precincts.{Cs, Npx, slice-top}
-use Rattle.counts.specs.Lines.{heldM}
+use Rattle.layout.specs.Slots.{slots, candidates, line-with, slot-with, candidate-with}
+use Rattle.bits.specs.Groups.{Ng}
 use Rattle.shapes.specs.Shapes.{shapeOf}
 use Rattle.packets.specs.declared.Setting.{Setting}
 use Rattle.packets.specs.declared.Precinct.{Precinct}
 use Rattle.packets.specs.Precincts.{T}
+use Rattle.packets.specs.Passes.{line}
 use Rattle.slices.specs.Slice.{State}
-use Rattle.slices.specs.Reached.{streamHas, countOf}
+use Rattle.slices.specs.Reached.{streamHas, streamPlanes, streamIndex}
 use Rattle.planes.specs.Values.{Coefficients}
 use Rattle.distances.specs.Rule.{type-of}
 use Rattle.reader.specs.Settings.{settingOf, N}
-use Rattle.reader.specs.Decoding.{cells, coefficients}
 use Rattle.reader.specs.Page.{headerOf}
 
--- ---- B.5, B.11: where the precinct of a coefficient stands
+-- ---- Table E.2: where the standard has the coefficient in column x and row y of filter type β of component i
 
 module _ (s : Shape) (β i x y : ℕ) where
+  -- its precinct p, by its row and column (B.5)
   abbrev pub rowWith : ℕ
   rowWith = y * sy s i * 2 ^ depth s β i / 2 ^ s .nly
 
   abbrev pub columnWith : ℕ
   columnWith = x * sx s i * 2 ^ across s β / Cs s
 
-  -- its slice, and its number there
+  -- which is this one of this slice (B.11)
   abbrev pub sliceWith : ℕ
   sliceWith = rowWith / s .hsl
 
   abbrev pub numberWith : ℕ
   numberWith = (rowWith - slice-top s sliceWith) * Npx s + columnWith
+
+  -- its line there, by the packet that has it (Table B.4) and its number among the lines that the packet can have. λ is y umod 2^(N_L,y − log2 s_y − d_y), and
+  -- Table B.4 counts s_y lines for each
+  abbrev pub slotWith : ℕ
+  slotWith = slot-with s β (line-with s β i y)
+
+  abbrev pub candidateWith : ℕ
+  candidateWith = candidate-with s β i
+
+  -- ξ, its place on the line: x umod ⌈Cs / (s_x 2^dx)⌉
+  abbrev pub placeWith : ℕ
+  placeWith = x % ceilDiv (Cs s) (sx s i * 2 ^ across s β)
 
 -- ---- what the stream s says of it
 
@@ -60,31 +75,47 @@ module _ (s : List ℕ) where
     abbrev pub β : ℕ
     β = type-of shape k dx
 
+    -- its precinct
     abbrev pub precinctWith : Precinct
     precinctWith = streamHas s setting beginning (sliceWith shape β i x y) (numberWith shape β i x y)
 
-    -- T, of its precinct and band
+    -- T[p,b], of its precinct and band
     unfoldable pub truncationOf : ℕ
     truncationOf = T setting precinctWith (band shape β i)
 
-    -- M, of its code group
+    -- M[p,λ,b,g], of its code group, which is the ⌊ξ / Ng⌋-th of the line (B.8)
     unfoldable pub planesOf : ℕ
-    planesOf = heldM (cell (cells s (headerOf s)) (countOf shape (columnWith shape β i x y) β i x y))
+    planesOf =
+        streamPlanes s setting beginning (sliceWith shape β i x y) (numberWith shape β i x y) (slotWith shape β i x y) (candidateWith shape β i x y)
+        (placeWith shape β i x y / Ng)
 
-    -- its index: M − T planes carry it, and the inverse quantiser makes of it, times 2^Fq, the coefficient that the reader decodes
-    pub record Index (index : ℤ) : Type 0 where
-      pub carried : Carried planesOf truncationOf (natAbs index)
-      pub is : coefficients s (headerOf s) i k dx dy x y ≡ scaled (setting .fq) (coefficientOf (setting .uniform) planesOf truncationOf index)
+    -- the index of (p, λ, b, ξ), with its sign
+    unfoldable pub storedAt : ℤ
+    storedAt =
+        streamIndex s setting beginning (sliceWith shape β i x y) (numberWith shape β i x y) (slotWith shape β i x y) (candidateWith shape β i x y)
+        (placeWith shape β i x y)
 
--- ---- demand 3's coefficients: 'any whole-number coefficients, each of size below 2^max(M, T), that the standard's forward quantiser turns into the
--- indices stored'
+    -- a line of its precinct that is row y of its band
+    pub record OnLine (slot j : ℕ) : Type 0 where
+      pub which : slot < slots shape
+      pub candidate : j < candidates shape slot
+      pub present : line setting precinctWith slot j .present ≡ true
+      pub band : line setting precinctWith slot j .band ≡ band shape β i
+      pub row : line setting precinctWith slot j .y ≡ y
 
-pub record Quantised (s : List ℕ) (C : Coefficients) : Type 0 where
-  pub small : (i : ℕ) → i < shape s .nc → (k : Kind) (dx dy x y : ℕ) → Coefficient (Wc (shape s) i) (Hc (shape s) i) (N′x (shape s) i) (N′y (shape s) i) k dx dy x y
-      → natAbs (C i k dx dy x y) < 2 ^ max (planesOf s i k dx dy x y) (truncationOf s i k dx dy x y)
-  pub gives : (i : ℕ) → i < shape s .nc → (k : Kind) (dx dy x y : ℕ) → Coefficient (Wc (shape s) i) (Hc (shape s) i) (N′x (shape s) i) (N′y (shape s) i) k dx dy x y
-      → Index s i k dx dy x y (indexOf (setting s .uniform) (planesOf s i k dx dy x y) (truncationOf s i k dx dy x y) (C i k dx dy x y))
+  -- Annex D: c′[p,λ,b,ξ], what the inverse quantiser that Qpih selects makes of each index
+  abbrev pub dequantised : Coefficients
+  dequantised i k dx dy x y = coefficientOf (setting .uniform) (planesOf i k dx dy x y) (truncationOf i k dx dy x y) (storedAt i k dx dy x y)
 
--- E.3: ×2^Fq, the first of the inverse transforms
-abbrev pub scaledUp : List ℕ → Coefficients → Coefficients
-scaledUp s C i k dx dy x y = scaled (setting s .fq) (C i k dx dy x y)
+  -- E.3: ×2^Fq, the first of the inverse transforms
+  abbrev pub scaledUp : Coefficients → Coefficients
+  scaledUp C i k dx dy x y = scaled (setting .fq) (C i k dx dy x y)
+
+  -- ---- demand 3's coefficients: 'any whole-number coefficients, each of size below 2^max(M, T), that the standard's forward quantiser turns into the
+  -- indices stored'
+
+  pub record Quantised (C : Coefficients) : Type 0 where
+    pub small : (i : ℕ) → i < shape .nc → (k : Kind) (dx dy x y : ℕ) → Coefficient (Wc shape i) (Hc shape i) (N′x shape i) (N′y shape i) k dx dy x y
+        → natAbs (C i k dx dy x y) < 2 ^ max (planesOf i k dx dy x y) (truncationOf i k dx dy x y)
+    pub gives : (i : ℕ) → i < shape .nc → (k : Kind) (dx dy x y : ℕ) → Coefficient (Wc shape i) (Hc shape i) (N′x shape i) (N′y shape i) k dx dy x y
+        → indexOf (setting .uniform) (planesOf i k dx dy x y) (truncationOf i k dx dy x y) (C i k dx dy x y) ≡ storedAt i k dx dy x y

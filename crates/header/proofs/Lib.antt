@@ -2,5 +2,8 @@ pub mod Steps
 pub mod Whole
 pub mod Ranges
 pub mod Sound
+pub mod Chain
+pub mod Accepted
 pub mod Table
 pub mod Sites
+pub mod Order

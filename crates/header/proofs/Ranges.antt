@@ -1,5 +1,5 @@
 -- What accepted tables say of their fields. Assumes nothing.
-use Prim.Native.Nat.{ℕ, zero, suc, _+_, _*_, _-_, _≤_, _<_, zero-le, max}
+use Prim.Native.Nat.{ℕ, zero, suc, _+_, _*_, _-_, _%_, _^_, _≤_, _<_, zero-le, max}
 use mathlib.Core.Bool.{Bool, true, false, _&&_, _||_, cond}
 use mathlib.Core.List.{List, _++_}
 use mathlib.Core.Path.{_≡_, refl, sym, _∙_}
@@ -18,47 +18,48 @@ use Rattle.picture.specs.Picture.{Built}
 use Rattle.picture.specs.declared.picture.Picture.{Picture}
 use Rattle.layout.specs.Bands.{samples-of, levels-of}
 use Rattle.segments.specs.Bands.{bands, existing}
-use Rattle.segments.specs.Components.{sxAt, componentAt, widest, depthChecks, levelChecks, filterChecks, columnUnit, lastColumn, sxChecks, acrossChecks, syChecks, downChecks, componentChecks, componentRow, componentsChecks}
+use Rattle.segments.specs.Components.{samplingPlace, depthAt, sxAt, syAt, componentAt, widest, depthChecks, levelChecks, filterChecks, sxChecks, acrossChecks, syChecks, downChecks, componentChecks, componentsChecks}
 use Rattle.segments.specs.Weights.{bandIn, bandsIn, gainAt, gainRow, gainChecks}
-use Rattle.segments.specs.declared.components.Component.{Component}
 use Rattle.segments.proofs.NumberLaws.{cond-le}
 use Rattle.header.specs.Accepted.{largest, Sampled}
 use Rattle.header.specs.Header.{four, componentOf, bandIs, gainOf}
 
 -- ---- a component
 
-module _ (h : Picture) (p c m : ℕ) (k : Component) (e : first (componentChecks h p c m k) ≡ Fine) where
+-- Table A.7's rule on Cw, for the largest sx
+abbrev columns-fit : Picture → ℕ → Type 0
+columns-fit h m = m * 2 ^ h .nlx ≤ h .wf % (8 * h .cw * m * 2 ^ h .nlx)
+
+module _ (s : List ℕ) (h : Picture) (p c : ℕ) (e : first (componentChecks s h p c) ≡ Fine) where
   abbrev place : ℕ
-  place = p + 5 + 2 * c
+  place = samplingPlace p c
 
   abbrev wide : ℕ
-  wide = samples-of (h .wf) (k .sx)
+  wide = samples-of (h .wf) (sxAt s p c)
 
   abbrev high : ℕ
-  high = samples-of (h .hf) (k .sy)
+  high = samples-of (h .hf) (syAt s p c)
 
   abbrev levels : ℕ
-  levels = levels-of (h .nly) (k .sy)
+  levels = levels-of (h .nly) (syAt s p c)
 
-  component-parts : (first (depthChecks h (p + 4 + 2 * c) k) ≡ Fine) × (first (acrossChecks h place c m k) ≡ Fine) × (first (downChecks h place k) ≡ Fine)
+  component-parts : (first (depthChecks s h p c) ≡ Fine) × (first (acrossChecks s h p c) ≡ Fine) × (first (downChecks s h p c) ≡ Fine)
   component-parts =
-      let later = acrossChecks h place c m k ++ downChecks h place k in
-      let d = append-fine (depthChecks h (p + 4 + 2 * c) k) later e in
-      let a = append-fine (acrossChecks h place c m k) (downChecks h place k) (d .1) in
+      let d = append-fine (depthChecks s h p c) (acrossChecks s h p c ++ downChecks s h p c) e in
+      let a = append-fine (acrossChecks s h p c) (downChecks s h p c) (d .1) in
       (d .0, a .0, a .1)
 
-  across-parts : (first (sxChecks h place c m k) ≡ Fine) × (first (filterChecks Sx place wide (h .nlx)) ≡ Fine)
-  across-parts = append-fine (sxChecks h place c m k) (filterChecks Sx place wide (h .nlx)) (component-parts .1)
+  across-parts : (first (sxChecks s h p c) ≡ Fine) × (first (filterChecks Sx place wide (h .nlx)) ≡ Fine)
+  across-parts = append-fine (sxChecks s h p c) (filterChecks Sx place wide (h .nlx)) (component-parts .1)
 
-  down-parts : (first (syChecks h place k) ≡ Fine) × (first (filterChecks Sy place high levels) ≡ Fine)
-  down-parts =
-      append-fine (syChecks h place k) (filterChecks Sy place high levels) (component-parts .2)
+  down-parts : (first (syChecks s h p c) ≡ Fine) × (first (filterChecks Sy place high levels) ≡ Fine)
+  down-parts = append-fine (syChecks s h p c) (filterChecks Sy place high levels) (component-parts .2)
 
-  sampled : Sampled h (k .depth) (k .sx) (k .sy)
+  sampled : Sampled h (depthAt s p c) (sxAt s p c) (syAt s p c)
   sampled =
-      let d = held (depthChecks h (p + 4 + 2 * c) k) (component-parts .0) in
-      let x = held (sxChecks h place c m k) (across-parts .0) in
-      let y = held (syChecks h place k) (down-parts .0) in
+      let d = held (depthChecks s h p c) (component-parts .0) in
+      let x = held (sxChecks s h p c) (across-parts .0) in
+      let y = held (syChecks s h p c) (down-parts .0) in
       let most = cond-le (eqb c 1 || eqb c 2) 2 1 2 (lit≤ tt) (lit≤ tt) refl in
       record {
         depth = (d .0 .least, d .0 .most);
@@ -72,9 +73,9 @@ module _ (h : Picture) (p c m : ℕ) (k : Component) (e : first (componentChecks
       }
 
   -- the last component
-  last-column : c + 1 ≡ h .nc → 0 < h .cw → columnUnit h m ≤ lastColumn h m
+  last-column : c + 1 ≡ h .nc → 0 < h .cw → columns-fit h (widest s p (h .nc))
   last-column l w =
-      let x = held (sxChecks h place c m k) (across-parts .0) in
+      let x = held (sxChecks s h p c) (across-parts .0) in
       rw (eq-eqb (c + 1) (h .nc) l, lt-ltb 0 (h .cw) w) at (x .1 .1 .0 .least)
 
 -- ---- by component
@@ -99,7 +100,7 @@ module _ (s : List ℕ) (h : Picture) (cdt : ℕ) (x : Built h) where
         let b = four-at (λ c. componentOf s h cdt c .depth) c few ∙ (λ i. k i .depth) in
         let a = four-at (λ c. componentOf s h cdt c .sx) c few ∙ (λ i. k i .sx) in
         let d = four-at (λ c. componentOf s h cdt c .sy) c few ∙ (λ i. k i .sy) in
-        rw (b, a, d) (sampled h cdt c (widest s cdt (h .nc)) (componentAt s cdt c) (each-fine (h .nc) (componentRow s h cdt) e c l))
+        rw (b, a, d) (sampled s h cdt c (each-fine (h .nc) (componentChecks s h cdt) e c l))
 
 -- the largest sx, of all four entries and of the components
 max-none : (m : ℕ) → max m 0 ≡ m
@@ -119,15 +120,13 @@ widest-is s cdt (suc (suc (suc (suc zero)))) l m f in-table past =
 widest-is s cdt (suc (suc (suc (suc (suc n))))) l m f in-table past = absurd (omega arith)
 
 module _ (s : List ℕ) (h : Picture) (cdt : ℕ) (x : Built h) (e : first (componentsChecks s h cdt) ≡ Fine) where
-  pub columns-at : 0 < h .cw →
-      columnUnit h (largest 0 (four (λ c. componentOf s h cdt c .sx))) ≤ lastColumn h (largest 0 (four (λ c. componentOf s h cdt c .sx)))
+  pub columns-at : 0 < h .cw → columns-fit h (largest 0 (four (λ c. componentOf s h cdt c .sx)))
   columns-at w =
-      let m = widest s cdt (h .nc) in
       let c = h .nc - 1 in
       let one : c + 1 ≡ h .nc = omega (arith, x .nc .0) in
       let past : (c : ℕ) → h .nc ≤ c → componentOf s h cdt c .sx ≡ 0 = λ c l. rw (le-ltb c (h .nc) l) in
       let g = widest-is s cdt (h .nc) (x .nc .0) (x .nc .1) (λ c. componentOf s h cdt c .sx) (λ c l i. component-is s h cdt x c l i .sx) past in
-      rw g (last-column h cdt c m (componentAt s cdt c) (each-fine (h .nc) (componentRow s h cdt) e c (omega arith)) one w)
+      rw g (last-column s h cdt c (each-fine (h .nc) (componentChecks s h cdt) e c (omega arith)) one w)
 
 -- ---- by band
 

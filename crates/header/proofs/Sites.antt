@@ -11,42 +11,22 @@ use Rattle.picture.specs.Opening.{picturePlace, openingChecks}
 use Rattle.picture.specs.Picture.{pictureAt}
 use Rattle.picture.specs.Segment.{segmentAt}
 use Rattle.picture.specs.declared.picture.Picture.{Picture}
-use Rattle.picture.specs.declared.segment.Segment.{Segment}
 use Rattle.picture.proofs.Laws.{opened}
 use Rattle.picture.proofs.Sites.{opening-sited}
 use Rattle.segments.specs.Segments.{kindOf, segmentChecks}
-use Rattle.segments.specs.declared.kinds.Kind.{Kind}
-use Rattle.segments.specs.declared.kinds.Kind.the-variants.{Components, Weights, Extension, Undecomposed, Registration, Unbuilt, Slice, Predicted, Unknown}
-use Rattle.segments.specs.declared.seen.Seen.{Seen}
 use Rattle.segments.proofs.Sites.{segment-sited}
 use Rattle.header.specs.Header.{walkBy, readingOf}
-use Rattle.header.specs.Walk.{accepted, judged, step, walk, Inside as InStream}
+use Rattle.header.specs.Walk.{step}
+use Rattle.header.specs.Turns.{walk, Inside as InStream}
 use Rattle.header.specs.declared.walk.Walk.{Walk}
 use Rattle.header.proofs.Sound.{walk-keeps, unseen-inside}
-use Rattle.header.proofs.Steps.{step-inside}
+use Rattle.header.proofs.Steps.{judged-verdict, step-inside}
 
 -- ---- a step
 
 -- the places of a walk are inside the stream, and so is its verdict's
 abbrev WalkInside : List ℕ → Walk → Type 0
 WalkInside s w = InStream s w × Inside (length s) (w .verdict)
-
-module _ (s : List ℕ) (g : Segment) (x : Seen) where
-  accepted-fine : (k : Kind) → accepted k s g x .verdict ≡ Fine
-  accepted-fine Components = refl
-  accepted-fine Weights = refl
-  accepted-fine Extension = refl
-  accepted-fine Undecomposed = refl
-  accepted-fine Registration = refl
-  accepted-fine (Unbuilt f) = refl
-  accepted-fine Slice = refl
-  accepted-fine Predicted = refl
-  accepted-fine Unknown = refl
-
-  -- a step's verdict is its table's
-  pub judged-verdict : (v : Verdict) (k : Kind) → judged v k s g x .verdict ≡ v
-  judged-verdict Fine k = accepted-fine k
-  judged-verdict (Refused c) k = refl
 
 step-sited : (s : List ℕ) (h : Picture) (w : Walk) → WalkInside s w → WalkInside s (step s h w)
 unfolding step

@@ -14,24 +14,42 @@ use Rattle.rows.specs.declared.Row.the-variants.{Lacking}
 use Rattle.rows.specs.declared.Verdict.{Verdict}
 use Rattle.rows.specs.declared.Verdict.the-variants.{Fine, Refused}
 use Rattle.rows.proofs.Tables.{append-fine, held}
-use Rattle.picture.specs.Markers.{CAPTION}
 use Rattle.picture.specs.Segment.{segmentAt, lengthChecks}
 use Rattle.picture.specs.declared.picture.Picture.{Picture}
+use Rattle.picture.specs.declared.segment.Segment.{Segment}
 use Rattle.picture.proofs.Laws.{ends}
 use Rattle.segments.specs.Components.{componentsChecks}
-use Rattle.segments.specs.Segments.{kindOf, typeAt, onceChecks, seenChecks, typeChecks, onlyChecks, sdChecks, headChecks, checksOf, segmentChecks}
+use Rattle.segments.specs.Segments.{kindOf, onceChecks, seenChecks, typeChecks, onlyChecks, sdChecks, headChecks, checksOf, segmentChecks}
 use Rattle.segments.specs.Weights.{bandsIn, gainChecks}
 use Rattle.segments.specs.declared.kinds.Kind.{Kind}
 use Rattle.segments.specs.declared.kinds.Kind.the-variants.{Components, Weights, Extension, Undecomposed, Registration, Unbuilt, Slice, Predicted, Unknown}
 use Rattle.segments.specs.declared.seen.Seen.{Seen}
 use Rattle.segments.proofs.NumberLaws.{cond-le}
-use Rattle.header.specs.Walk.{captionOf, ended, accepted, judged, step, turn, begun, walkOr, walk, Inside}
+use Rattle.header.specs.Walk.{captionOf, isCaption, noneYet, ended, accepted, judged, step}
+use Rattle.header.specs.Turns.{turn, begun, walkOr, walk, Inside}
 use Rattle.header.specs.declared.walk.Walk.{Walk}
 use Rattle.loops.proofs.Laws.{Falls, until-free}
 
 -- a test has one result
 pub clash : {A : Type 0} → true ≡ false → A
 clash e = let z : _≡_ {A = ℕ} 0 1 = cc in absurd (omega arith)
+
+module _ (s : List ℕ) (g : Segment) (x : Seen) where
+  accepted-fine : (k : Kind) → accepted k s g x .verdict ≡ Fine
+  accepted-fine Components = refl
+  accepted-fine Weights = refl
+  accepted-fine Extension = refl
+  accepted-fine Undecomposed = refl
+  accepted-fine Registration = refl
+  accepted-fine (Unbuilt f) = refl
+  accepted-fine Slice = refl
+  accepted-fine Predicted = refl
+  accepted-fine Unknown = refl
+
+  -- a step's verdict is its segment's
+  pub judged-verdict : (v : Verdict) (k : Kind) → judged v k s g x .verdict ≡ v
+  judged-verdict Fine k = accepted-fine k
+  judged-verdict (Refused c) k = refl
 
 -- the walk goes on inside the stream
 abbrev Further : List ℕ → ℕ → Walk → Type 0
@@ -139,7 +157,7 @@ module _ (s : List ℕ) (h : Picture) (w : Walk) (i : Inside s w) where
       record { at = accepted-on s h (w .seen) (w .at) Weights e refl .1; cdt = i .cdt; wgt = i .at; caption = i .caption; part = i .part }
   accepted-inside Extension e =
       let f = accepted-on s h (w .seen) (w .at) Extension e refl .1 in
-      let is = eqb (typeAt s (w .at)) CAPTION && eqb (w .seen .caption) 0 in
+      let is = isCaption s (w .at) && noneYet (w .seen) in
       let size = lengthChecks (segmentAt s (w .at)) Lcom 4 0xffff in
       let l = held size (append-fine size (typeChecks s (w .at)) e .0) .1 .1 .0 .least in
       record { at = f; cdt = i .cdt; wgt = i .wgt; caption = cond-le is (w .at) (w .seen .caption) (length s) (i .at) (i .caption) refl; part = caption-inside is l f }

@@ -19,38 +19,21 @@ use Rattle.picture.specs.declared.picture.Picture.{Picture}
 use Rattle.picture.specs.declared.segment.Segment.{Segment}
 use Rattle.segments.specs.Segments.{kindOf, segmentChecks}
 use Rattle.segments.specs.declared.kinds.Kind.{Kind}
-use Rattle.segments.specs.declared.kinds.Kind.the-variants.{Components, Weights, Extension, Undecomposed, Registration, Unbuilt, Slice, Predicted, Unknown}
 use Rattle.segments.specs.declared.seen.Seen.{Seen}
-use Rattle.header.specs.Walk.{accepted, judged, step, turn, begun, walk}
+use Rattle.header.specs.Walk.{judged, step}
+use Rattle.header.specs.Turns.{turn, begun, walk}
 use Rattle.header.specs.Header.{walkBy, readingOf}
 use Rattle.header.specs.Table.{segmentsFrom, headerChecks}
 use Rattle.header.specs.declared.walk.Walk.{Walk}
-use Rattle.header.proofs.Steps.{clash, left, step-falls}
-
--- ---- a step has its segment's verdict
-
-module _ (s : List ℕ) (g : Segment) (x : Seen) where
-  accepted-fine : (k : Kind) → accepted k s g x .verdict ≡ Fine
-  accepted-fine Components = refl
-  accepted-fine Weights = refl
-  accepted-fine Extension = refl
-  accepted-fine Undecomposed = refl
-  accepted-fine Registration = refl
-  accepted-fine (Unbuilt f) = refl
-  accepted-fine Slice = refl
-  accepted-fine Predicted = refl
-  accepted-fine Unknown = refl
-
-  judged-verdict : (v : Verdict) (k : Kind) → judged v k s g x .verdict ≡ v
-  judged-verdict Fine k = accepted-fine k
-  judged-verdict (Refused c) k = refl
-
-  -- and one that is refused ends the walk
-  judged-open : (v : Verdict) (k : Kind) → judged v k s g x .done ≡ false → judged v k s g x .verdict ≡ Fine
-  judged-open Fine k d = accepted-fine k
-  judged-open (Refused c) k d = clash d
+use Rattle.header.proofs.Steps.{clash, judged-verdict, left, step-falls}
 
 -- ---- the walk
+
+module _ (s : List ℕ) (g : Segment) (x : Seen) where
+  -- a segment that is refused ends the walk
+  judged-open : (v : Verdict) (k : Kind) → judged v k s g x .done ≡ false → judged v k s g x .verdict ≡ Fine
+  judged-open Fine k d = judged-verdict s g x Fine k
+  judged-open (Refused c) k d = clash d
 
 then-fine : (v : Verdict) → v ≡ then v Fine
 then-fine Fine = refl

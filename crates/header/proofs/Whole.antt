@@ -8,7 +8,7 @@ use Rattle.rows.specs.declared.Verdict.the-variants.{Fine, Refused}
 use Rattle.rows.proofs.Tables.{refused-fine}
 use Rattle.picture.specs.declared.picture.Picture.{Picture}
 use Rattle.header.specs.Header.{walkBy, headerBy}
-use Rattle.header.specs.Walk.{Inside}
+use Rattle.header.specs.Turns.{Inside}
 use Rattle.header.specs.declared.walk.Walk.{Walk}
 
 -- a walk is fine only behind an opening that is

@@ -1,15 +1,13 @@
 -- What holds of an accepted header, for whoever reads on: the law `accepted-header` says so of every stream whose verdict is `Fine`.
-use Prim.Native.Nat.{ℕ, _+_, _^_, _≤_, _<_, max}
+use Prim.Native.Nat.{ℕ, _+_, _*_, _%_, _^_, _≤_, _<_, max}
 use mathlib.Core.List.{List, [], _∷_}
 use mathlib.Core.Path.{_≡_}
 use lib.ListN.{length, getD}
 use Rattle.whole.specs.Numbers.{ceilDiv}
-use Rattle.bits.specs.Fields.{fieldAt}
-use Rattle.picture.specs.Markers.{SLH}
 use Rattle.picture.specs.Picture.{Built}
 use Rattle.picture.specs.declared.picture.Picture.{Picture}
 use Rattle.layout.specs.Bands.{samples-of, levels-of}
-use Rattle.segments.specs.Components.{columnUnit, lastColumn}
+use Rattle.header.specs.Occurrence.{Occurs}
 use Rattle.header.specs.declared.header.Header.{Header}
 
 -- the largest of m and some numbers
@@ -35,15 +33,15 @@ pub record Sampled (h : Picture) (B x y : ℕ) : Type 0 where
 pub record Ranges (h : Header) : Type 0 where
   pub built : Built (h .picture)
   pub each : (c : ℕ) → c < h .picture .nc → Sampled (h .picture) (getD (h .depth) c 0) (getD (h .sx) c 0) (getD (h .sy) c 0)
-  -- Table A.7, Cw: the last column
-  pub columns : 0 < h .picture .cw → columnUnit (h .picture) (largest 0 (h .sx)) ≤ lastColumn (h .picture) (largest 0 (h .sx))
+  -- Table A.7, Cw
+  pub columns : 0 < h .picture .cw → largest 0 (h .sx) * 2 ^ h .picture .nlx ≤ h .picture .wf % (8 * h .picture .cw * largest 0 (h .sx) * 2 ^ h .picture .nlx)
   pub gains : (b : ℕ) → getD (h .gains) b 0 ≤ 15
 
 -- of a stream that is accepted up to and with its first slice marker
 pub record Accepted (s : List ℕ) (h : Header) : Type 0 where
   pub ranges : Ranges h
+  pub occurs : Occurs s h
   pub whole : h .picture .lcod ≡ length s
   pub short : length s < 2 ^ 32
-  pub marker : fieldAt s (h .slice) 16 ≡ SLH
   pub slice : h .slice + 2 ≤ length s
   pub caption : h .caption .at + h .caption .size ≤ length s

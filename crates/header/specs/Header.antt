@@ -1,7 +1,7 @@
 -- The header of a codestream: what its segments say, or the first broken check.
-use Prim.Native.Nat.{ℕ, zero, suc, _+_, _≤_}
+use Prim.Native.Nat.{ℕ, _+_, _≤_}
 use mathlib.Core.Bool.{Bool, false, _&&_, cond}
-use mathlib.Core.List.{List, [], _∷_, _++_}
+use mathlib.Core.List.{List, [], _∷_}
 use mathlib.Core.Path.{_≡_}
 use lib.Dec.{ltb}
 use lib.ListN.{length, take, drop, replicate}
@@ -9,7 +9,7 @@ use Rattle.whole.specs.Cells.{listed}
 use Rattle.rows.specs.Rows.{first}
 use Rattle.rows.specs.declared.Verdict.{Verdict}
 use Rattle.rows.specs.declared.Verdict.the-variants.{Fine, Refused}
-use Rattle.picture.specs.Opening.{picturePlace, openingChecks}
+use Rattle.picture.specs.Opening.{picturePlace, pictureBytes, openingChecks}
 use Rattle.picture.specs.Picture.{noPicture, pictureAt}
 use Rattle.picture.specs.declared.picture.Picture.{Picture}
 use Rattle.segments.specs.Bands.{bands, existing}
@@ -18,7 +18,8 @@ use Rattle.segments.specs.Segments.{noneSeen}
 use Rattle.segments.specs.Weights.{bandIn, gainAt, priorityAt}
 use Rattle.segments.specs.declared.components.Component.{Component}
 use Rattle.segments.specs.declared.seen.Seen.{Seen}
-use Rattle.header.specs.Walk.{ended, walk, captionOf}
+use Rattle.header.specs.Walk.{ended, captionOf}
+use Rattle.header.specs.Turns.{walk}
 use Rattle.header.specs.declared.captions.Caption.{Caption}
 use Rattle.header.specs.declared.header.Header.{Header}
 use Rattle.header.specs.declared.header.Reading.{Reading}
@@ -79,9 +80,9 @@ noHeader =
       slice = 0;
     }
 
--- the walk begins behind the picture header, of 28 bytes, where that is accepted
+-- the walk begins behind the picture header, where that is accepted
 abbrev pub walkBy : Verdict → List ℕ → Picture → ℕ → Walk
-walkBy Fine s h p = walk s h (p + 28)
+walkBy Fine s h p = walk s h (p + pictureBytes)
 walkBy (Refused c) s h p = ended (Refused c) 0 noneSeen
 
 -- a refused stream has no header

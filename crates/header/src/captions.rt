@@ -1,5 +1,5 @@
 // Where the bench caption stands.
-use segments::numbers::less;
+use layout::numbers::less;
 ghost use mathlib.Core.Path.{_≡_};
 ghost use Prim.Native.Nat.{_<_, _^_};
 ghost use Rattle.header.specs.Walk.{captionOf};
@@ -14,7 +14,7 @@ pub struct Caption {
 
 impl Caption {
     // The caption of the extension at a place, which is 0 where there is none.
-    pub fn read(s: &[u8], place: usize) -> Self
+    pub(crate) fn read(s: &[u8], place: usize) -> Self
         requires { ⌜ place < 2 ^ 32 ⌝ }
         ensures { λ r. ⌜ r ≡ captionOf (now (s .entry)) place ⌝ }
     {

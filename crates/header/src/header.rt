@@ -13,7 +13,7 @@ ghost use lib.ListN.{length};
 ghost use Rattle.rows.specs.declared.Verdict.the-variants.{Fine};
 ghost use Rattle.picture.specs.Picture.{Built};
 ghost use Rattle.picture.specs.Opening.{Opened};
-ghost use Rattle.header.specs.Walk.{Inside};
+ghost use Rattle.header.specs.Turns.{Inside};
 ghost use Rattle.header.specs.Header.{componentOf, headerIn, noHeader, walkBy, headerBy, readingBy};
 
 // What the segments say.
@@ -79,7 +79,7 @@ impl Header {
     }
 
     // No header.
-    pub fn none() -> Self
+    fn none() -> Self
         ensures { λ r. ⌜ r ≡ noHeader ⌝ }
     {
         Self {
@@ -100,7 +100,7 @@ impl Header {
 }
 
 // The walk begins behind an accepted picture header at p.
-pub fn walk_by(v: Verdict, s: &[u8], h: Picture, p: usize) -> Walk
+pub(crate) fn walk_by(v: Verdict, s: &[u8], h: Picture, p: usize) -> Walk
     requires { ⌜ (v ≡ Fine → Opened (now s) h p) ⌝ }
     ensures { λ r. ⌜ (r ≡ walkBy v (now (s .entry)) h p) × Inside (now (s .entry)) r ⌝ }
 {
@@ -123,7 +123,7 @@ fn header_by(v: Verdict, s: &[u8], h: Picture, w: Walk) -> Header
 }
 
 // The answer at a walk's end.
-pub fn reading_by(s: &[u8], h: Picture, w: Walk) -> Reading
+pub(crate) fn reading_by(s: &[u8], h: Picture, w: Walk) -> Reading
     requires { ⌜ (w .verdict ≡ Fine → Built h × (length (now s) < 2 ^ 32)) × Inside (now s) w ⌝ }
     ensures { λ r. ⌜ (r ≡ readingBy (now (s .entry)) h w) × (r .header .caption .at + r .header .caption .size ≤ length (now (s .entry))) ⌝ }
 {

@@ -11,7 +11,8 @@ ghost use mathlib.Core.Path.{_≡_};
 ghost use Prim.Native.Nat.{_<_, _≤_, _^_};
 ghost use lib.ListN.{length};
 ghost use Rattle.picture.specs.Picture.{Built};
-ghost use Rattle.header.specs.Walk.{captionPlace, ended, behind, accepted, judged, step, begun, Inside, IsWalk};
+ghost use Rattle.header.specs.Walk.{captionPlace, ended, behind, accepted, judged, step};
+ghost use Rattle.header.specs.Turns.{begun, Inside, IsWalk};
 
 // Where the walk is, whether it has ended, with which verdict, and what it has seen.
 pub struct Walk {
@@ -36,7 +37,7 @@ impl Walk {
     }
 
     // The end, at a place.
-    pub fn end(verdict: Verdict, at: usize, seen: Seen) -> Self
+    pub(crate) fn end(verdict: Verdict, at: usize, seen: Seen) -> Self
         ensures { λ r. ⌜ r ≡ ended verdict at seen ⌝ }
     {
         Self {
@@ -132,7 +133,7 @@ fn step(s: &[u8], h: Picture, w: Walk) -> Walk
 }
 
 // From the place p to the first slice marker, or to what is refused first. Each segment takes bytes, so this ends.
-pub fn walk_from(s: &[u8], h: Picture, p: usize) -> Walk
+pub(crate) fn walk_from(s: &[u8], h: Picture, p: usize) -> Walk
     requires { ⌜ Built h × (length (now s) < 2 ^ 32) × (p ≤ length (now s)) ⌝ }
     ensures { λ r. ⌜ IsWalk (now (s .entry)) h p r ⌝ }
 {

@@ -36,7 +36,7 @@ fn byte_if(s: &[u8], is: bool, place: usize) -> u8
 
 impl Weights {
     // By the component table at `cdt` and the weights table at `wgt`.
-    pub fn read(s: &[u8], h: Picture, cdt: usize, wgt: usize) -> Self
+    pub(crate) fn read(s: &[u8], h: Picture, cdt: usize, wgt: usize) -> Self
         requires { ⌜ Built h × (cdt < 2 ^ 32) × (wgt < 2 ^ 32) ⌝ }
         ensures { λ r. ⌜ r ≡ weightsOf (now (s .entry)) h cdt wgt ⌝ }
     {

@@ -146,7 +146,7 @@ fn print_stream(name: &[u8], s: &[u8]) {
     print_answer(verdict, h, s);
 }
 
-// The file that argument i names.
+// The file that argument i names, of at most 65,535 bytes.
 fn print_file(i: usize) {
     let mut name = io::buffer();
     let n = os::arg(i, &mut name);
@@ -158,6 +158,12 @@ fn print_file(i: usize) {
     let mut buffer = io::large_buffer();
     let size = io::read_full(file, &mut buffer);
     libc::close(file);
+    // a buffer that is full may not hold the whole file
+    if 65535 < size {
+        text(&name[..n]);
+        text(b": longer than 65535 bytes\n");
+        return;
+    }
     print_stream(&name[..n], &buffer[..size]);
 }
 

@@ -1,6 +1,6 @@
 -- Columns of precincts: how wide and how many they are. Assumes nothing.
 use mathlib.Core.Path.{_≡_, sym, ap, _∙_}
-use Prim.Native.Nat.{ℕ, zero, suc, _*_, _-_, _^_, _≤_, _<_, max}
+use Prim.Native.Nat.{ℕ, zero, suc, _*_, _^_, _≤_, _<_, max}
 use native.Mathlib.Nat.{mul-le-mul, max-zero}
 use native.Mathlib.Decide.{decLe, decLt}
 use native.Mathlib.Omega.{arith}

@@ -3,7 +3,7 @@
 use mathlib.Core.Path.{_≡_, refl, sym, ap, _∙_}
 use mathlib.Core.Bool.{cond}
 use Prim.Native.Nat.{ℕ, zero, suc, _+_, _*_, _-_, _/_, _%_, _^_, _≤_, _<_}
-use native.Mathlib.Nat.{mul-assoc, mul-comm, mul-left-comm, mul-div-mul-right, mul-le-mul, mul-le-mul-right, le-of-mul-le-mul-right, lt-of-mul-lt-mul-right, div-eq-of-lt-le, div-mul-le-self, lt-div-mul-add, div-add-mod', mod-lt, suc-mul, add-mul, one-mul, zero-mul, add-mul-div-right, mul-add-mod-self-right, mod-le, div-eq-of-lt, mul-mul-mul-comm}
+use native.Mathlib.Nat.{mul-assoc, mul-comm, mul-left-comm, mul-div-mul-right, mul-le-mul, mul-le-mul-right, le-of-mul-le-mul-right, lt-of-mul-lt-mul-right, div-eq-of-lt-le, div-mul-le-self, lt-div-mul-add, div-add-mod', mod-lt, mod-eq-of-lt, suc-mul, add-mul, one-mul, zero-mul, add-mul-div-right, mul-add-mod-self-right, mod-le, div-eq-of-lt, mul-mul-mul-comm}
 use native.Mathlib.Decide.{decLe, decLt}
 use native.Mathlib.Omega.{arith}
 use borrow.Author.Tests.{lt-ltb, le-ltb}
@@ -280,6 +280,31 @@ module _ (s : Shape) (built : Built s) where
         letter-above (τx (kind s β)) (Wp s (x * u / Cs s)) u v (x - first-x s (x * u / Cs s) β i) (τx-most (kind s β)) u-some v-some u-twice (omega (arith, e, end))
         in
         (from, omega (arith, w))
+
+    -- Table E.2's ξ is its place among them
+    pub place-of : (x : ℕ) → x < Wb s β i → x - first-x s (x * u / Cs s) β i ≡ x % ceilDiv (Cs s) u
+    unfolding first-x
+    place-of x b = by (decLt 0 (s .cw))
+      where
+        rest : (n : ℕ) → x - x / n * n ≡ x % n
+        rest n = omega (arith, div-add-mod' x n)
+
+        whole : x - 0 ≡ x
+        whole = omega arith
+
+        by : Dec (0 < s .cw) → x - ceilDiv (x * u / Cs s * Cs s) u ≡ x % ceilDiv (Cs s) u
+        by (yes c) =
+            let column : x * u / Cs s ≡ x / times = ap (λ (k : ℕ). x * u / k) (Cs-multiple c) ∙ mul-div-mul-right x times u-some in
+            let start : ceilDiv (x * u / Cs s * Cs s) u ≡ x / times * times =
+            (λ j. ceilDiv (column j * Cs-multiple c j) u) ∙ ap (λ (k : ℕ). ceilDiv k u) (sym (mul-assoc (x / times) times u)) ∙ ceil-exact (x / times * times) in
+            let wide : ceilDiv (Cs s) u ≡ times = ap (λ (k : ℕ). ceilDiv k u) (Cs-multiple c) ∙ ceil-exact times in
+            ap (λ (k : ℕ). x - k) start ∙ rest times ∙ ap (λ (k : ℕ). x % k) (sym wide)
+        by (no n) =
+            let column : x * u / Cs s ≡ 0 = omega (arith, column-below x b, one-column (omega arith)) in
+            let start : ceilDiv (x * u / Cs s * Cs s) u ≡ 0 =
+            (λ j. ceilDiv (column j * Cs s) u) ∙ ap (λ (k : ℕ). ceilDiv k u) (zero-mul (Cs s) ∙ sym (zero-mul u)) ∙ ceil-exact 0 in
+            let below : x < ceilDiv (Cs s) u = size-above u-some (Cs s) x (omega (arith, band-column x b, Cs-whole s built (omega arith))) in
+            ap (λ (k : ℕ). x - k) start ∙ whole ∙ sym (mod-eq-of-lt below)
 
     -- and one that is counted in a column of precincts is a column of the band that belongs to it
     pub column-member : (column x : ℕ) → column < Npx s → first-x s column β i ≤ x → x < first-x s column β i + Wpb s column β i

@@ -14,3 +14,5 @@ pub mod Cover
 pub mod Present
 pub mod Once
 pub mod Tables
+pub mod Members
+pub mod Shared

@@ -1,11 +1,11 @@
 -- Every line of an existing band is a present candidate of one slot of one precinct row, and of no other. Assumes nothing.
 use mathlib.Core.Path.{_≡_, refl, sym, ap, subst, _∙_}
-use mathlib.Core.Bool.{true, _&&_}
+use mathlib.Core.Bool.{true, cond, _&&_}
 use Prim.Native.Nat.{ℕ, zero, suc, _+_, _*_, _-_, _/_, _%_, _^_, _≤_, _<_}
 use native.Mathlib.Nat.{mul-add-div-right, mul-add-mod-self-right, div-eq-of-lt, div-lt-iff-lt-mul, mod-eq-of-lt, mod-lt, mul-mod-left, mul-div-cancel, zero-mul, mul-le-mul-right, suc-mul, div-add-mod', pow-suc, one-mul}
 use native.Mathlib.Decide.{decLe, decLt}
 use native.Mathlib.Omega.{arith}
-use borrow.Author.Tests.{lt-ltb, eqb-true}
+use borrow.Author.Tests.{lt-ltb, le-ltb, eqb-true}
 use lib.Dec.{eqb, ltb}
 use lib.Pow.{pow-pos, pow-mono}
 use Rattle.layout.specs.declared.Shape.{Shape}
@@ -13,7 +13,7 @@ use Rattle.layout.specs.Bands.{sy, N′y, Nβ, β₁, dy, depth, Hb, exi
 use Rattle.layout.specs.Built.{Built}
 use Rattle.layout.specs.Precincts.{first-y, most-lines}
 use Rattle.layout.specs.Packets.{included}
-use Rattle.layout.specs.Slots.{slots, level-group, turn-of, slot-type, slot-line, candidates}
+use Rattle.layout.specs.Slots.{slots, level-group, turn-of, slot-type, slot-line, candidates, line-with, slot-with, candidate-with}
 use Rattle.layout.proofs.Filters.{both-parts}
 use Rattle.layout.proofs.Shapes.{dy-most}
 use Rattle.layout.proofs.Slots.{first-type, first-count, first-line, later-type, later-types, later-line, later-turn, slot-fits, dy-level}
@@ -23,9 +23,8 @@ use Rattle.layout.proofs.Present.{tests-true}
 
 -- ---- the slot of line l of a band
 
-pub record Slotted (s : Shape) (β i l : ℕ) : Type 0 where
-  pub k : ℕ
-  pub j : ℕ
+-- candidate j of slot k is it
+pub record Slotted (s : Shape) (β i l k j : ℕ) : Type 0 where
   pub slot : k < slots s
   pub candidate : j < candidates s k
   pub type : slot-type s k + j / s .nc ≡ β
@@ -40,11 +39,9 @@ half-turn (suc (suc g)) l h k = absurd (omega arith)
 
 module _ (s : Shape) (built : Built s) where
   module _ (β i l : ℕ) (type : β < Nβ s) (h : i < s .nc) where
-    first-slotted : β < β₁ s → l ≡ 0 → Slotted s β i l
+    first-slotted : β < β₁ s → l ≡ 0 → Slotted s β i l 0 (β * s .nc + i)
     first-slotted f z =
         record {
-          k = 0;
-          j = β * s .nc + i;
           slot = omega arith;
           candidate = rw (first-count s built {k = 0} refl) (omega (arith, mul-le-mul-right (s .nc) f, suc-mul β (s .nc)));
           type = rw (first-type s built {k = 0} refl) (quotient (mul-add-div-right (built .some) β i ∙ ap (λ (n : ℕ). β + n) (div-eq-of-lt h)));
@@ -56,15 +53,13 @@ module _ (s : Shape) (built : Built s) where
         quotient e = omega arith
 
     -- level g and letters m
-    later-slotted : (g m : ℕ) → g < s .nly → m < 3 → β ≡ β₁ s + 3 * g + m → l < 2 ^ g → Slotted s β i l
+    later-slotted : (g m : ℕ) → g < s .nly → m < 3 → β ≡ β₁ s + 3 * g + m → l < 2 ^ g → Slotted s β i l (1 + 3 * (2 ^ g + l - 1) + m) i
     later-slotted g m a b e c =
         let up : 1 + 3 * (2 ^ g + l - 1) + m ≡ 0 → ⊥ = (λ z. omega arith) in
         let t : turn-of (1 + 3 * (2 ^ g + l - 1) + m) ≡ 2 ^ g + l = turned (2 ^ g + l) some in
         let q : level-group (turn-of (1 + 3 * (2 ^ g + l - 1) + m)) ≡ g = ap level-group t ∙ half-turn g l (omega (arith, built .down-levels)) c in
         let r : (1 + 3 * (2 ^ g + l - 1) + m - 1) % 3 ≡ m = rest (2 ^ g + l - 1) in
         record {
-          k = 1 + 3 * (2 ^ g + l - 1) + m;
-          j = i;
           slot = below (2 ^ g + l) (2 ^ s .nly) some (fewer (pow-suc 2 g) (pow-mono {i = suc g} {j = s .nly} a) c);
           candidate = rw (later-types s built (1 + 3 * (2 ^ g + l - 1) + m) up) (omega (arith, one-mul (s .nc)));
           type =
@@ -98,18 +93,21 @@ module _ (s : Shape) (built : Built s) where
         plain : (x : ℕ) → x + 0 ≡ x
         plain x = omega arith
 
-    pub find-slot : l < 2 ^ (s .nly - dy s β) → Slotted s β i l
+    find-slot : l < 2 ^ (s .nly - dy s β) → Slotted s β i l (slot-with s β l) (candidate-with s β i)
+    unfolding slot-with candidate-with
     find-slot c = by (decLt β (β₁ s))
       where
-        by : Dec (β < β₁ s) → Slotted s β i l
+        by : Dec (β < β₁ s)
+            → Slotted s β i l (cond (ltb β (β₁ s)) 0 (1 + 3 * (2 ^ ((β - β₁ s) / 3) + l - 1) + (β - β₁ s) % 3)) (cond (ltb β (β₁ s)) (β * s .nc + i) i)
         by (yes f) =
             let z : s .nly - dy s β ≡ 0 = omega (arith, first-letters s β f .1) in
-            first-slotted f (omega (arith, rw z at c))
+            rw (lt-ltb β (β₁ s) f) (first-slotted f (omega (arith, rw z at c)))
         by (no n) =
             let b : first-types (s .nlx) (s .nly) ≤ β = omega arith in
             let p = both-parts (s .nlx) (s .nly) β (built .no-more) type b in
             let d : s .nly - dy s β ≡ (β - first-types (s .nlx) (s .nly)) / 3 = level-of b (p .1) in
-            later-slotted ((β - first-types (s .nlx) (s .nly)) / 3) ((β - first-types (s .nlx) (s .nly)) % 3) (p .1) (mod-lt (β - first-types (s .nlx) (s .nly)) (omega arith)) (sym (p .0)) (rw d at c)
+            rw (le-ltb β (β₁ s) b)
+            (later-slotted ((β - first-types (s .nlx) (s .nly)) / 3) ((β - first-types (s .nlx) (s .nly)) % 3) (p .1) (mod-lt (β - first-types (s .nlx) (s .nly)) (omega arith)) (sym (p .0)) (rw d at c))
           where
             left : (n q : ℕ) → q < n → n - (n - q) ≡ q
             left n q h = omega arith
@@ -178,10 +176,8 @@ module _ (s : Shape) (built : Built s) where
 
 -- ---- lines of a band
 
--- a present candidate of the row that is line y of a band
-pub record Named (s : Shape) (row β i y : ℕ) : Type 0 where
-  pub k : ℕ
-  pub j : ℕ
+-- candidate j of slot k is a present one of the row, and line y of a band
+pub record Named (s : Shape) (row β i y k j : ℕ) : Type 0 where
   pub slot : k < slots s
   pub candidate : j < candidates s k
   pub type : slot-type s k + j / s .nc ≡ β
@@ -215,7 +211,8 @@ module _ (s : Shape) (built : Built s) (β i : ℕ) (type : β < Nβ s) (h : i <
       by (no n) = half (omega (arith, built .sampled i h .down-less, built .sampled i h .across-two)) (decLt (dy s β) (s .nly))
 
   -- each line of an existing band has its candidate in the row of precincts that it belongs to
-  pub every-line : exists s β i ≡ true → (y : ℕ) → y < Hb s β i → Named s (y / most-lines s β i) β i y
+  pub every-line : exists s β i ≡ true → (y : ℕ) → y < Hb s β i
+      → Named s (y / most-lines s β i) β i y (slot-with s β (line-with s β i y)) (candidate-with s β i)
   every-line x y b =
       let l = line-named (y % most-lines s β i) (mod-lt y (pow-pos (N′y s i - depth s β i))) in
       let f = find-slot s built β i (y % most-lines s β i * sy s i) type h l in
@@ -229,8 +226,6 @@ module _ (s : Shape) (built : Built s) (β i : ℕ) (type : β < Nβ s) (h : i <
       ∙ lt-ltb y (Hb s β i) b
       in
       record {
-        k = f .k;
-        j = f .j;
         slot = f .slot;
         candidate = f .candidate;
         type = f .type;
@@ -240,18 +235,18 @@ module _ (s : Shape) (built : Built s) (β i : ℕ) (type : β < Nβ s) (h : i <
       }
 
   -- and no other
-  pub one-line : {row y : ℕ} (a b : Named s row β i y) → (a .k ≡ b .k) × (a .j ≡ b .j)
-  one-line {row} {y} a b =
-      same-candidate s built (a .k) (b .k) (a .j) (b .j) (a .slot) (b .slot) (a .candidate) (b .candidate) (a .type ∙ sym (b .type)) (a .component ∙ sym (b .component))
-      (whole a ∙ ap (λ (n : ℕ). n * sy s i) (cancel (first-y s row β i) (slot-line (a .k) / sy s i) (slot-line (b .k) / sy s i) (a .line ∙ sym (b .line))) ∙ sym (whole b))
+  pub one-line : {row y k k′ j j′ : ℕ} → Named s row β i y k j → Named s row β i y k′ j′ → (k ≡ k′) × (j ≡ j′)
+  one-line {row} {y} {k} {k′} {j} {j′} a b =
+      same-candidate s built k k′ j j′ (a .slot) (b .slot) (a .candidate) (b .candidate) (a .type ∙ sym (b .type)) (a .component ∙ sym (b .component))
+      (whole a ∙ ap (λ (n : ℕ). n * sy s i) (cancel (first-y s row β i) (slot-line k / sy s i) (slot-line k′ / sy s i) (a .line ∙ sym (b .line))) ∙ sym (whole b))
     where
       cancel : (f m n : ℕ) → f + m ≡ f + n → m ≡ n
       cancel f m n e = omega arith
 
-      whole : (c : Named s row β i y) → slot-line (c .k) ≡ slot-line (c .k) / sy s i * sy s i
-      whole c =
-          let fits : slot-line (c .k) < 2 ^ (s .nly - dy s β) =
-          subst (λ (n : ℕ). slot-line (c .k) < 2 ^ (s .nly - dy s n)) (c .type) (slot-fits s built (c .k) (c .j) (c .slot) (c .candidate) .2)
+      whole : {k j : ℕ} → Named s row β i y k j → slot-line k ≡ slot-line k / sy s i * sy s i
+      whole {k} {j} c =
+          let fits : slot-line k < 2 ^ (s .nly - dy s β) =
+          subst (λ (n : ℕ). slot-line k < 2 ^ (s .nly - dy s n)) (c .type) (slot-fits s built k j (c .slot) (c .candidate) .2)
           in
-          let t = tests-true (exists s β i) (eqb (slot-line (c .k) % sy s i) 0) (ltb (first-y s row β i + slot-line (c .k) / sy s i) (Hb s β i)) (included-is s β i built h row (slot-line (c .k)) fits ∙ c .present) in
-          omega (arith, div-add-mod' (slot-line (c .k)) (sy s i), eqb-true (slot-line (c .k) % sy s i) 0 (t .1))
+          let t = tests-true (exists s β i) (eqb (slot-line k % sy s i) 0) (ltb (first-y s row β i + slot-line k / sy s i) (Hb s β i)) (included-is s β i built h row (slot-line k) fits ∙ c .present) in
+          omega (arith, div-add-mod' (slot-line k) (sy s i), eqb-true (slot-line k % sy s i) 0 (t .1))

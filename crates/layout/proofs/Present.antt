@@ -3,13 +3,13 @@ use mathlib.Core.Path.{_≡_, refl, ap, _∙_}
 use mathlib.Core.Bool.{Bool, true, false, _&&_}
 use mathlib.Core.List.{List, [], _∷_, List·Memᴰ, List·Memᴰ·cases-cons, List·Memᴰ·not-nil}
 use mathlib.Core.Logic.{_⊎_, inl, inr}
-use Prim.Native.Nat.{ℕ, suc, _+_, _*_, _-_, _/_, _%_, _^_, _<_}
+use Prim.Native.Nat.{ℕ, _+_, _*_, _-_, _/_, _%_, _^_, _<_}
 use native.Mathlib.Omega.{arith}
 use borrow.Author.Tests.{ltb-true}
 use lib.Dec.{eqb, ltb}
 use lib.ListN.{length}
 use Rattle.layout.specs.declared.Shape.{Shape}
-use Rattle.layout.specs.Bands.{sy, Nβ, Wc, dx, dy, depth, Hb, exists, band}
+use Rattle.layout.specs.Bands.{sy, Nβ, dx, dy, Hb, exists, band}
 use Rattle.layout.specs.Built.{Built}
 use Rattle.layout.specs.Precincts.{Npx, first-x, first-y, Wpb, L0}
 use Rattle.layout.specs.Packets.{loop, when, nonempty, packets, included}
@@ -17,7 +17,7 @@ use Rattle.layout.specs.Cells.{area, start, cell}
 use Rattle.layout.specs.Slots.{slot-type, slot-line, candidates, line, line-at, slot}
 use Rattle.layout.proofs.Reaches.{included-is}
 use Rattle.layout.proofs.Cover.{column-member}
-use Rattle.layout.proofs.Cells.{Exists, cell-inside, later-column, line-above}
+use Rattle.layout.proofs.Cells.{Exists, cell-inside, later-column}
 
 -- ---- a packet is not empty
 
@@ -73,12 +73,3 @@ module _ (s : Shape) (built : Built s) (row column β i l : ℕ) (type : β < N�
   line-inside n k =
       let e = later-column s β i (first-x s column β i) (first-y s row β i + l / sy s i) n in
       (omega (arith, e), omega (arith, e, cell-inside s built i h (line-exists n k)))
-
--- ---- the line above a line of the band, which the vertical predictor reads
-
-module _ (s : Shape) (i β x y : ℕ) (c : Exists s i β x (suc y)) where
-  pub above-exists : Exists s i β x y
-  above-exists = record { type = c .type; there = c .there; column = c .column; row = omega (arith, c .row) }
-
-  pub above-cell : cell s β i x y + 2 ^ depth s β i * Wc s i ≡ cell s β i x (suc y)
-  above-cell = omega (arith, line-above s β i x y)

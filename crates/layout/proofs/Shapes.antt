@@ -1,6 +1,6 @@
 -- What a built shape says of its components and bands. Assumes nothing.
 use mathlib.Core.Path.{_≡_}
-use Prim.Native.Nat.{ℕ, _-_, _≤_, _<_}
+use Prim.Native.Nat.{ℕ, _≤_, _<_}
 use native.Mathlib.Omega.{arith}
 use Rattle.layout.specs.declared.Shape.{Shape}
 use Rattle.layout.specs.declared.bands.Component.{Component}

@@ -1,7 +1,7 @@
--- B.7 to B.9: the packets of a precinct, and the groups of a line.
-use mathlib.Core.Bool.{Bool, true, false, _&&_}
+-- B.7: the packets of a precinct.
+use mathlib.Core.Bool.{Bool, true, false, _&&_, _||_}
 use mathlib.Core.List.{List, [], _∷_, _++_}
-use Prim.Native.Nat.{ℕ, zero, suc, _+_, _*_, _-_, _%_, _^_}
+use Prim.Native.Nat.{ℕ, zero, suc, _+_, _-_, _%_, _^_}
 use lib.Dec.{eqb, ltb}
 use Rattle.whole.specs.Numbers.{ceilDiv}
 use Rattle.layout.specs.declared.Shape.{Shape}
@@ -56,16 +56,14 @@ packets s row =
     loop β₀ (β₀ + 3) 1 (λ β. packet s row l β ∷ [])))
     )
 
--- Table A.7: a code group has 4 coefficients, a significance group 8 code groups
-abbrev pub Ng : ℕ
-Ng = 4
+-- ---- C.3: packets that share a band
 
-abbrev pub Ss : ℕ
-Ss = 8
+-- I[p,λ,b,s] is 1 for a line λ of band b
+unfoldable pub includes : List Part → ℕ → Bool
+includes [] b = false
+includes (x ∷ more) b = eqb (x .band) b || includes more b
 
--- B.8, B.9: how many code groups, and how many significance groups, a line of this width has
-abbrev pub Ncg : ℕ → ℕ
-Ncg width = ceilDiv width Ng
-
-abbrev pub Ns : ℕ → ℕ
-Ns width = ceilDiv width (Ng * Ss)
+-- 'there is a band b and line indices λ and λ′ such that I[p,λ,b,s] = 1 and I[p,λ′,b,s′] = 1'
+unfoldable pub share : List Part → List Part → Bool
+share [] other = false
+share (x ∷ more) other = includes other (x .band) || share more other

@@ -1,15 +1,16 @@
 -- The packets that a precinct can have, numbered, and the lines that each can have, numbered: an order that index loops can follow. Slot 0 is the
 -- first packet. Slot k above 0 is line l of one filter type, in the order of Table B.4's loops: floor((k − 1) / 3) + 1 is 2^g + l for the g-th level of both
 -- directions, and (k − 1) mod 3 picks one of its three filter types.
-use mathlib.Core.Bool.{cond}
+use mathlib.Core.Bool.{Bool, cond}
 use mathlib.Core.List.{List}
 use Prim.Native.Nat.{ℕ, _+_, _*_, _-_, _/_, _%_, _^_}
-use lib.Dec.{eqb}
+use lib.Dec.{eqb, ltb}
+use Rattle.bits.specs.Groups.{Ncg, Ns}
 use Rattle.layout.specs.declared.Shape.{Shape}
 use Rattle.layout.specs.declared.Line.{Line}
 use Rattle.layout.specs.Bands.{sy, β₁, Wc, band, dx, depth}
-use Rattle.layout.specs.Precincts.{Wpb, first-x, first-y, L0}
-use Rattle.layout.specs.Packets.{Part, part, included, loop, when, Ncg, Ns}
+use Rattle.layout.specs.Precincts.{Wpb, most-lines, first-x, first-y, L0}
+use Rattle.layout.specs.Packets.{Part, part, included, loop, when, share}
 use Rattle.layout.specs.Cells.{area, cell}
 
 abbrev pub slots : Shape → ℕ
@@ -58,9 +59,25 @@ line s row column β i l =
 unfoldable pub line-at : Shape → ℕ → ℕ → ℕ → ℕ → Line
 line-at s row column k j = line s row column (slot-type s k + j / s .nc) (j % s .nc) (slot-line k)
 
+-- Table B.4, from the line to the packet. Row y of a band is line l of the band in its precinct, which has `most-lines` rows of s_y lines each
+abbrev pub line-with : Shape → ℕ → ℕ → ℕ → ℕ
+line-with s β i y = y % most-lines s β i * sy s i
+
+-- the slot that has line l of filter type β: the first packet has the types below β₁, and type β₁ + 3g + m is the m-th of the g-th level
+unfoldable pub slot-with : Shape → ℕ → ℕ → ℕ
+slot-with s β l = cond (ltb β (β₁ s)) 0 (1 + 3 * (2 ^ ((β - β₁ s) / 3) + l - 1) + (β - β₁ s) % 3)
+
+-- and the candidate that is component i's
+unfoldable pub candidate-with : Shape → ℕ → ℕ → ℕ
+candidate-with s β i = cond (ltb β (β₁ s)) (β * s .nc + i) i
+
 -- the present candidates of a slot, as Table B.4 has them
 unfoldable pub slot : Shape → ℕ → ℕ → List Part
 slot s row k =
     loop 0 (candidates s k) 1 (λ j.
     when (included s row (slot-type s k + j / s .nc) (j % s .nc) (slot-line k))
     (part s (slot-type s k + j / s .nc) (j % s .nc) (slot-line k + L0 s (slot-type s k + j / s .nc) (j % s .nc))))
+
+-- C.3: the packets of slots k and k′ have a line of the same band
+abbrev pub sharing : Shape → ℕ → ℕ → ℕ → Bool
+sharing s row k k′ = share (slot s row k) (slot s row k′)

@@ -33,6 +33,14 @@ pub struct Band {
     pub part: Component,
 }
 
+// B.3: how many filter types there are.
+pub fn filter_types(nlx: usize, nly: usize) -> usize
+    requires { ⌜ (nly ≤ nlx) × (nlx ≤ 5) ⌝ }
+    ensures { λ r. ⌜ r ≡ filters nlx nly ⌝ }
+{
+    2 * nly + nlx + 1
+}
+
 // Tables B.1 to B.3.
 pub fn filter_type(nlx: usize, nly: usize, beta: usize) -> Filter
     requires { ⌜ (nly ≤ nlx) × (nlx ≤ 5) × (beta < filters nlx nly) ⌝ }
@@ -82,16 +90,19 @@ pub fn component_of(s: Shape, i: usize) -> Component
     }
 }
 
-// B.4, at dy[β] of all components and not at the component's own.
-fn first_line_divides(f: Filter, nly: usize, sy: usize) -> bool
-    requires { ⌜ (nly ≤ 2) × (f .dy ≤ nly) × (f .ty ≤ 1) × (0 < sy) ⌝ }
+// B.4, at dy[β] of all components and not at the component's own. Total, for whoever asks before sy is judged: a mod 0 is a.
+pub fn first_line_divides(f: Filter, nly: usize, sy: usize) -> bool
+    requires { ⌜ (nly ≤ 2) × (f .dy ≤ nly) × (f .ty ≤ 1) ⌝ }
     ensures { λ r. ⌜ r ≡ has-first-line nly sy (f .dy) (f .ty) ⌝ }
 {
-    let d = nly - f.dy;
-    power(d) * f.ty % sy == 0
+    let line = power(nly - f.dy) * f.ty;
+    if sy == 0 {
+        return line == 0;
+    }
+    line % sy == 0
 }
 
-pub fn band_of(s: Shape, beta: usize, i: usize) -> Band
+pub(crate) fn band_of(s: Shape, beta: usize, i: usize) -> Band
     requires { ⌜ Built s × (beta < Nβ s) × (i < s .nc) ⌝ }
     ensures { λ r. ⌜ IsBand s beta i r ⌝ }
 {

@@ -1,6 +1,7 @@
 // The fields of a precinct header that stand once for each band (Table C.1), and what they make of a band's weights (Table C.12).
 use crate::Shape;
 use crate::bands::band_of;
+use crate::bands::filter_types;
 use crate::numbers::ceil_div;
 use crate::numbers::less;
 use crate::numbers::power;
@@ -23,8 +24,7 @@ pub fn band_count(s: Shape) -> usize
     requires { ⌜ Built s ⌝ }
     ensures { λ r. ⌜ (r ≡ NL s) × (r ≤ 40) ⌝ }
 {
-    let filters = 2 * s.nly + s.nlx + 1;
-    s.nc * filters
+    s.nc * filter_types(s.nlx, s.nly)
 }
 
 pub fn band_exists(s: Shape, b: usize) -> bool
@@ -37,7 +37,7 @@ pub fn band_exists(s: Shape, b: usize) -> bool
 }
 
 // How many of the bands below b exist.
-pub fn modes_before(s: Shape, b: usize) -> usize
+fn modes_before(s: Shape, b: usize) -> usize
     requires { ⌜ Built s × (b ≤ NL s) ⌝ }
     ensures { λ r. ⌜ (r ≡ modes s b) × (r ≤ b) ⌝ }
 {

@@ -2,7 +2,7 @@
 pub mod bands;
 pub mod headers;
 pub mod lines;
-mod numbers;
+pub mod numbers;
 pub mod precincts;
 
 // What Annex B needs of a picture's header. Entries of sx and sy past the components are 0.

@@ -7,7 +7,7 @@ ghost use Rattle.wavelet.specs.Places.{place};
 ghost use Rattle.layout.specs.Precincts.{by-letter};
 ghost use Rattle.layout.specs.Sizes.{Power};
 
-pub fn smaller(a: usize, b: usize) -> usize
+pub(crate) fn smaller(a: usize, b: usize) -> usize
     ensures { λ r. ⌜ r ≡ min a b ⌝ }
 {
     if a < b { a } else { b }
@@ -33,14 +33,14 @@ pub fn power(k: usize) -> usize
     1 << k
 }
 
-pub fn product(a: usize, b: usize) -> usize
+pub(crate) fn product(a: usize, b: usize) -> usize
     requires { ⌜ (a < 2 ^ 30) × (b < 2 ^ 30) ⌝ }
     ensures { λ r. ⌜ (r ≡ a * b) × (r < 2 ^ 60) ⌝ }
 {
     a * b
 }
 
-pub fn ceil_div(e: usize, m: usize) -> usize
+pub(crate) fn ceil_div(e: usize, m: usize) -> usize
     requires { ⌜ (e < 2 ^ 60) × (0 < m) × (m < 2 ^ 60) ⌝ }
     ensures { λ r. ⌜ r ≡ ceilDiv e m ⌝ }
 {
@@ -56,7 +56,7 @@ pub fn low_size(n: usize, d: usize) -> usize
 }
 
 // A band's size in a direction where it is low-pass (0) or high-pass (1), at depth d of n samples.
-pub fn size(n: usize, t: usize, d: usize) -> usize
+pub(crate) fn size(n: usize, t: usize, d: usize) -> usize
     requires { ⌜ (n < 2 ^ 60) × (d ≤ 5) ⌝ }
     ensures { λ r. ⌜ r ≡ by-letter t (low-size n d) (high-size n d) ⌝ }
 {
@@ -67,7 +67,7 @@ pub fn size(n: usize, t: usize, d: usize) -> usize
 }
 
 // The column, or row, of a band's i-th coefficient in a line.
-pub fn place(t: usize, d: usize, i: usize) -> usize
+pub(crate) fn place(t: usize, d: usize, i: usize) -> usize
     requires { ⌜ (t ≤ 1) × (d ≤ 5) × (i < 2 ^ 30) ⌝ }
     ensures { λ r. ⌜ r ≡ place t d i ⌝ }
 {

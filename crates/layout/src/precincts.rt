@@ -8,7 +8,7 @@ use crate::numbers::product;
 ghost use mathlib.Core.Path.{_≡_};
 ghost use Prim.Native.Nat.{_*_, _<_, _≤_, _^_};
 ghost use Rattle.layout.specs.Built.{Built};
-ghost use Rattle.layout.specs.Precincts.{Npx, Npy, slices, slice-top, slice-rows, Np};
+ghost use Rattle.layout.specs.Precincts.{Npx, Npy, slices, slice-rows, Np};
 ghost use Rattle.layout.specs.Sizes.{IsLargest, IsColumnWidth, IsColumn};
 
 // A column of precincts on the sampling grid.
@@ -26,7 +26,7 @@ fn largest_sx(s: Shape) -> usize
     larger(larger(larger(f[0], f[1]), f[2]), f[3])
 }
 
-pub fn column_width(s: Shape) -> usize
+fn column_width(s: Shape) -> usize
     requires { ⌜ Built s ⌝ }
     ensures { λ r. ⌜ IsColumnWidth s r ⌝ }
 {
@@ -53,7 +53,7 @@ pub fn precinct_rows(s: Shape) -> usize
     low_size(s.hf, s.nly)
 }
 
-pub fn column_of(s: Shape, column: usize) -> Column
+pub(crate) fn column_of(s: Shape, column: usize) -> Column
     requires { ⌜ Built s × (column < Npx s) ⌝ }
     ensures { λ r. ⌜ IsColumn s column r ⌝ }
 {
@@ -69,16 +69,8 @@ pub fn column_of(s: Shape, column: usize) -> Column
     }
 }
 
-// The first row of precincts of slice t.
-pub fn top_of_slice(s: Shape, t: usize) -> usize
-    requires { ⌜ Built s × (t < 2 ^ 16) ⌝ }
-    ensures { λ r. ⌜ (r ≡ slice-top s t) × (r < 2 ^ 60) ⌝ }
-{
-    product(t, s.hsl)
-}
-
 // The rows of precincts in slice t.
-pub fn rows_in_slice(s: Shape, t: usize) -> usize
+fn rows_in_slice(s: Shape, t: usize) -> usize
     requires { ⌜ Built s × (t < 2 ^ 16) ⌝ }
     ensures { λ r. ⌜ (r ≡ slice-rows s t) × (r < 2 ^ 16) ⌝ }
 {

@@ -221,7 +221,7 @@ fn print_stream(name: &[u8], stream: &[u8]) {
     print_answer(verdict, shapes::shape_of(h));
 }
 
-// The file that argument i names.
+// The file that argument i names, of at most 65,535 bytes.
 fn print_file(i: usize) {
     let mut name = io::buffer();
     let n = os::arg(i, &mut name);
@@ -233,6 +233,13 @@ fn print_file(i: usize) {
     let mut buffer = io::large_buffer();
     let size = io::read_full(file, &mut buffer);
     libc::close(file);
+    // a buffer that is full may not hold the whole file
+    if 65535 < size {
+        text(b"stream ");
+        text(&name[..n]);
+        text(b"\nlonger than 65535 bytes\n");
+        return;
+    }
     print_stream(&name[..n], &buffer[..size]);
 }
 

@@ -7,10 +7,10 @@ ghost use Rattle.output.specs.Linear.{clamp, sample, distance, Precision
 ghost use Rattle.output.specs.Constants.{scaleOf, byScale, Usable};
 
 // What Table G.2 works out once for a component: both terms that it adds, in one; the shift; the largest sample.
-pub struct Scale {
-    pub lift: u64,
-    pub shift: u64,
-    pub top: u64,
+struct Scale {
+    lift: u64,
+    shift: u64,
+    top: u64,
 }
 
 // 2^k.

@@ -13,7 +13,7 @@ use Rattle.layout.specs.Built.{Built}
 use Rattle.layout.specs.Precincts.{Cs, Npx, Wpb, Member, most-lines, first-x, first-y}
 use Rattle.layout.specs.Packets.{included}
 use Rattle.layout.specs.Cells.{area, start, cell}
-use Rattle.layout.specs.Slots.{slots, slot-type, slot-line, candidates, line as lineOf, line-at}
+use Rattle.layout.specs.Slots.{slots, slot-type, slot-line, candidates, line-with, slot-with, candidate-with, line as lineOf, line-at}
 use Rattle.layout.proofs.Slots.{slot-fits}
 use Rattle.layout.proofs.Reaches.{line-fits}
 use Rattle.layout.proofs.Cells.{Exists, cell-inside, cells-differ, starts-up}
@@ -85,7 +85,7 @@ module _ (s : Shape) (built : Built s) {row column slot j : ℕ} (a : There s ro
   fits : (type s slot j < Nβ s) × (slot-line slot < 4) × (slot-line slot < 2 ^ (s .nly - dy s (type s slot j)))
   fits = slot-fits s built slot j (a .which) (a .candidate)
 
-  part-below : part s slot j < s .nc
+  pub part-below : part s slot j < s .nc
   part-below = mod-lt j (built .some)
 
   here : included s row (type s slot j) (part s slot j) (slot-line slot) ≡ true
@@ -100,7 +100,7 @@ module _ (s : Shape) (built : Built s) {row column slot j : ℕ} (a : There s ro
   cell-at x = line-at s row column slot j .cell + x * line-at s row column slot j .stride
 
   module _ (x : ℕ) (h : x < line-at s row column slot j .width) where
-    there-exists : Exists s (part s slot j) (type s slot j) (column-at x) (down s slot j row)
+    pub there-exists : Exists s (part s slot j) (type s slot j) (column-at x) (down s slot j row)
     unfolding line-at lineOf
     there-exists = line-exists s built row column (type s slot j) (part s slot j) (slot-line slot) (fits .0) part-below (fits .2) (a .across) here x h
 
@@ -112,7 +112,7 @@ module _ (s : Shape) (built : Built s) {row column slot j : ℕ} (a : There s ro
     there-inside = (omega (arith, there-cell), omega (arith, there-cell, cell-inside s built (part s slot j) part-below there-exists))
 
     -- it tells the precinct's column
-    there-column : column-at x * (sx s (part s slot j) * 2 ^ dx s (type s slot j)) / Cs s ≡ column
+    pub there-column : column-at x * (sx s (part s slot j) * 2 ^ dx s (type s slot j)) / Cs s ≡ column
     unfolding line-at lineOf
     there-column =
         column-member s built (type s slot j) (part s slot j) (fits .0) part-below column (column-at x) (a .across) (omega arith) (omega arith) .1
@@ -122,7 +122,7 @@ module _ (s : Shape) (built : Built s) {row column slot j : ℕ} (a : There s ro
   there-area = refl
 
   -- the line tells the precinct's row
-  there-row : down s slot j row / most-lines s (type s slot j) (part s slot j) ≡ row
+  pub there-row : down s slot j row / most-lines s (type s slot j) (part s slot j) ≡ row
   there-row =
       mul-add-div-right (pow-pos (N′y s (part s slot j) - depth s (type s slot j) (part s slot j))) row (slot-line slot / sy s (part s slot j))
       ∙ ap (λ (n : ℕ). row + n) (div-eq-of-lt (line-fits s (type s slot j) (part s slot j) built part-below (slot-line slot) (fits .2)))
@@ -147,10 +147,8 @@ module _ (s : Shape) (built : Built s) {row row′ column column′ slot slot′
       let r : row ≡ row′ = sym (there-row s built a) ∙ (λ n. q .3 n / most-lines s (q .1 n) (q .0 n)) ∙ there-row s built b in
       let same =
       one-line s built (type s slot j) (part s slot j) (fits s built a .0) (part-below s built a) {row = row} {y = down s slot j row}
-      (record { k = slot; j = j; slot = a .which; candidate = a .candidate; type = refl; component = refl; line = refl; present = here s built a })
+      (record { slot = a .which; candidate = a .candidate; type = refl; component = refl; line = refl; present = here s built a })
       (record {
-        k = slot′;
-        j = j′;
         slot = b .which;
         candidate = b .candidate;
         type = sym (q .1);
@@ -187,8 +185,11 @@ module _ (s : Shape) (built : Built s) {row row′ column column′ slot slot′
 pub record Addressed (s : Shape) (row column i β x y n : ℕ) : Type 0 where
   pub slot : ℕ
   pub j : ℕ
+  pub slot-is : slot ≡ slot-with s β (line-with s β i y)
+  pub j-is : j ≡ candidate-with s β i
   pub there : There s row column slot j
   pub band : line-at s row column slot j .band ≡ band s β i
+  pub height : line-at s row column slot j .y ≡ y
   pub number : first-x s column β i + n ≡ x
   pub inside : n < line-at s row column slot j .width
   pub coefficient : line-at s row column slot j .cell + n * line-at s row column slot j .stride ≡ cell s β i x y
@@ -206,29 +207,34 @@ module _ (s : Shape) (built : Built s) {i β x y : ℕ} (h : i < s .nc) (e : Exi
   unfolding line-at lineOf
   addressed-here =
       let m = every-line s built β i (e .type) h (e .there) y (e .row) in
+      let slot = slot-with s β (line-with s β i y) in
+      let j = candidate-with s β i in
       let across = member-column s built β i (e .type) h x (e .column) in
-      let t : There s row-here column-here (m .k) (m .j) =
+      let t : There s row-here column-here slot j =
       record {
         across = column-below s built β i (e .type) h x (e .column);
         which = m .slot;
         candidate = m .candidate;
-        present = (λ n. included s row-here (m .type n) (m .component n) (slot-line (m .k))) ∙ m .present;
+        present = (λ n. included s row-here (m .type n) (m .component n) (slot-line slot)) ∙ m .present;
       } in
-      let wide : Wpb s column-here (type s (m .k) (m .j)) (part s (m .k) (m .j)) ≡ Wpb s column-here β i =
+      let wide : Wpb s column-here (type s slot j) (part s slot j) ≡ Wpb s column-here β i =
       λ n. Wpb s column-here (m .type n) (m .component n) in
       let at : (n : ℕ) → n < Wpb s column-here β i → cell-at s built t n ≡ cell s β i (first-x s column-here β i + n) y =
       λ n l. there-cell s built t n (omega arith)
       ∙ (λ z.
       cell s (m .type z) (m .component z) (first-x s column-here (m .type z) (m .component z) + n)
-      (first-y s row-here (m .type z) (m .component z) + slot-line (m .k) / sy s (m .component z)))
+      (first-y s row-here (m .type z) (m .component z) + slot-line slot / sy s (m .component z)))
       ∙ (λ z. cell s β i (first-x s column-here β i + n) (m .line z))
       in
       let back : first-x s column-here β i + (x - first-x s column-here β i) ≡ x = omega (arith, across) in
       record {
-        slot = m .k;
-        j = m .j;
+        slot = slot;
+        j = j;
+        slot-is = refl;
+        j-is = refl;
         there = t;
         band = λ n. band s (m .type n) (m .component n);
+        height = (λ n. first-y s row-here (m .type n) (m .component n) + slot-line slot / sy s (m .component n)) ∙ m .line;
         number = back;
         inside = omega (arith, across);
         coefficient = at (x - first-x s column-here β i) (omega (arith, across)) ∙ (λ n. cell s β i (back n) y);

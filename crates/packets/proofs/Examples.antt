@@ -5,7 +5,7 @@ use mathlib.Core.Path.{_≡_, refl}
 use Prim.Native.Nat.{ℕ}
 use lib.IntN.{ℤ, pos, negsuc}
 use Rattle.loops.specs.Run.{run}
-use Rattle.rows.specs.Rows.{check, ample}
+use Rattle.rows.specs.Rows.{each, check, ample}
 use Rattle.rows.specs.declared.Verdict.the-variants.{Fine, Refused}
 use Rattle.rows.specs.declared.Row.the-variants.{Length}
 use Rattle.rows.specs.declared.Field.the-variants.{Data}
@@ -19,13 +19,14 @@ use Rattle.layout.specs.Cells.{area, samples, inner}
 use Rattle.layout.specs.Slots.{slot-type, slot-types, slot-line, line, line-at}
 use Rattle.counts.specs.Groups.{counted}
 use Rattle.counts.specs.Lines.{unpack, turn, lineCounts}
-use Rattle.values.specs.Group.{countIn, planes, nibblesOf, signBits, v, signBitsOf, s, index}
-use Rattle.values.specs.Line.{M, nibbles, placed, nibbleAt, signAt, indexAt, valueAt, lineValues}
+use Rattle.bits.specs.Groups.{nibblesOf}
+use Rattle.values.specs.Group.{planes, signBits, v, signBitsOf, s, index}
+use Rattle.values.specs.Line.{M, behind, placed, indexAt, valueAt, lineValues}
 use Rattle.packets.specs.declared.Setting.{Setting}
 use Rattle.packets.specs.declared.Precinct.{Precinct}
 use Rattle.packets.specs.Precincts.{D, T}
 use Rattle.packets.specs.Passes.{marks, countTurn, packetCounts, valueTurn, packetValues}
-use Rattle.packets.specs.Packets.{Lsig, Left, packet}
+use Rattle.packets.specs.Packets.{flagChecks, Lsig, Left, packet}
 
 setting : Setting
 setting =
@@ -57,11 +58,11 @@ read size cells = packet (stream size) setting precinct 0 6 [] cells
 -- low-pass coefficients at even places, high-pass at odd ones, and behind the four the count of each band's group
 reads : read 2 (pos 9 ∷ pos 9 ∷ pos 9 ∷ pos 9 ∷ pos 0 ∷ pos 9 ∷ pos 0 ∷ pos 0 ∷ [])
     ≡ (Fine, pos 5 ∷ pos 0 ∷ negsuc 1 ∷ pos 0 ∷ pos 3 ∷ pos 0 ∷ pos 0 ∷ pos 0 ∷ [])
-unfolding read stream precinct setting packet Lsig marks D T packetCounts countTurn run lineCounts turn unpack counted field bitAt packetValues valueTurn lineValues valueAt indexAt signAt nibbleAt placed nibbles M index s signBitsOf v signBits nibblesOf planes countIn scaled coefficientOf inverse uniform series terms deadzone line-at line slot-type slot-types slot-line included exists kind dx dy depth Hb Wc Hc largest Cs Npx Wp Wpb first-x lines L0 L1 area samples inner modes
+unfolding read stream precinct setting packet flagChecks each Lsig marks D T packetCounts countTurn run lineCounts turn unpack counted field bitAt packetValues valueTurn lineValues valueAt indexAt behind placed M index s signBitsOf v signBits nibblesOf planes scaled coefficientOf inverse uniform series terms deadzone line-at line slot-type slot-types slot-line included exists kind dx dy depth Hb Wc Hc largest Cs Npx Wp Wpb first-x lines L0 L1 area samples inner modes
 reads = refl
 
 -- one byte of data is too few: the four nibbles want two
 short : read 1 (pos 9 ∷ pos 9 ∷ pos 9 ∷ pos 9 ∷ pos 0 ∷ pos 9 ∷ pos 0 ∷ pos 0 ∷ [])
     ≡ (Refused (check Length 12 Data 1 2 ample), pos 9 ∷ pos 9 ∷ pos 9 ∷ pos 9 ∷ pos 3 ∷ pos 0 ∷ pos 0 ∷ pos 0 ∷ [])
-unfolding read stream precinct setting packet Lsig marks D T packetCounts countTurn run lineCounts turn unpack counted field bitAt line-at line slot-type slot-types slot-line included exists kind dx dy depth Hb Wc Hc largest Cs Npx Wp Wpb first-x lines L0 L1 area samples inner modes
+unfolding read stream precinct setting packet flagChecks each Lsig marks D T packetCounts countTurn run lineCounts turn unpack counted nibblesOf field bitAt line-at line slot-type slot-types slot-line included exists kind dx dy depth Hb Wc Hc largest Cs Npx Wp Wpb first-x lines L0 L1 area samples inner modes
 short = refl

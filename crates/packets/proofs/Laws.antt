@@ -1,8 +1,8 @@
 -- What a packet leaves, for the layers above: where it ends, and which cells it changes. Assumes nothing.
-use mathlib.Core.Path.{_≡_, refl, ap, _∙_}
+use mathlib.Core.Path.{_≡_, refl, _∙_}
 use mathlib.Core.Bool.{Bool, true, false, cond}
 use mathlib.Core.List.{List, _++_}
-use Prim.Native.Nat.{ℕ, zero, suc, _+_, _-_, _*_, _^_, _≤_, _<_}
+use Prim.Native.Nat.{ℕ, zero, suc, _+_, _*_, _^_, _≤_, _<_}
 use native.Mathlib.Omega.{arith}
 use borrow.Author.Tests.{eqb-true, eqb-false}
 use lib.Dec.{eqb}
@@ -11,7 +11,7 @@ use lib.Seq.{getD-set-same, getD-set-other}
 use lib.IntN.{ℤ, pos, natAbs}
 use lib.ListN.{length, set, length-set}
 use Rattle.whole.specs.Cells.{cell, Bounded}
-use Rattle.loops.specs.Run.{Turn, go, run}
+use Rattle.loops.specs.Run.{go}
 use Rattle.loops.proofs.Laws.{Kept, run-keeps}
 use Rattle.rows.specs.Rows.{first}
 use Rattle.rows.specs.declared.Check.{Check}
@@ -19,7 +19,6 @@ use Rattle.rows.specs.declared.Verdict.{Verdict}
 use Rattle.rows.specs.declared.Verdict.the-variants.{Fine, Refused}
 use Rattle.rows.proofs.Tables.{held}
 use Rattle.layout.specs.declared.Line.{Line}
-use Rattle.layout.specs.Cells.{start}
 use Rattle.layout.specs.Slots.{candidates}
 use Rattle.counts.specs.declared.group.Coding.{Coding}
 use Rattle.counts.specs.declared.Line.{Line as Counted}
@@ -31,13 +30,11 @@ use Rattle.values.specs.Line.{placed, valueAt, lineValues}
 use Rattle.values.proofs.Laws.{value-small, line-length as values-length, line-other as values-other}
 use Rattle.packets.specs.declared.Setting.{Setting}
 use Rattle.packets.specs.declared.Precinct.{Precinct}
-use Rattle.packets.specs.Ready.{Settled, Slotted}
+use Rattle.packets.specs.Ready.{Settled}
 use Rattle.packets.specs.Precincts.{T}
 use Rattle.packets.specs.Passes.{line, marks, codingOf, placeOf, Counting, counted, countTurn, packetCounts, valuesOf, valued, valueTurn, packetValues}
-use Rattle.packets.specs.Packets.{past, datAt, headChecks, countChecks, dataChecks, valuesBy, afterCounts, countsBy, packet}
-use Rattle.packets.specs.Steps.{countsOf}
+use Rattle.packets.specs.Packets.{past, datAt, headChecks, countChecks, dataChecks, valuesBy, afterCounts, countsBy, packet, countsOf}
 use Rattle.packets.proofs.LinePasses.{T-most}
-use Rattle.packets.proofs.Lines.{lies}
 use Rattle.packets.proofs.Stretches.{head-inside}
 
 -- ---- where a packet ends
@@ -46,11 +43,7 @@ pub clash : {A : Type 0} {k : Check} → Refused k ≡ Fine → A
 clash e = let z : _≡_ {A = ℕ} 0 1 = cc in absurd (omega arith)
 
 module _ (s : List ℕ) (c : Setting) (p : Precinct) (slot at : ℕ) where
-  -- not before its header
-  pub packet-onward : at ≤ past s c p slot at
-  packet-onward = omega arith
-
-  values-fine : (v : Verdict) (cells : List ℤ) → valuesBy s c p slot at v cells .0 ≡ Fine → v ≡ Fine
+  pub values-fine : (v : Verdict) (cells : List ℤ) → valuesBy s c p slot at v cells .0 ≡ Fine → v ≡ Fine
   values-fine Fine cells e = refl
   values-fine (Refused k) cells e = clash e
 
@@ -76,7 +69,7 @@ module _ (s : List ℕ) (c : Setting) (p : Precinct) (slot at : ℕ) where
   counts-fine Fine cells h e = after-fine (countsOf s c p slot at cells) (h refl) e
   counts-fine (Refused k) cells h e = clash e
 
-  -- nor, where nothing is refused, past its precinct
+  -- where nothing is refused, not past its precinct
   pub packet-inside : (raws : List ℕ) (cells : List ℤ) → at ≤ p .end → packet s c p slot at raws cells .0 ≡ Fine → past s c p slot at ≤ p .end
   unfolding packet
   packet-inside raws cells h e = counts-fine (first (headChecks s c p slot at raws)) cells (head-inside s c p slot at raws h) e
@@ -162,14 +155,6 @@ module _ (s : List ℕ) (c : Setting) (p : Precinct) (slot at : ℕ) (raws : Lis
       (λ j h e cnt sig k t i z l q. counts-other cnt sig k (placeOf (line c p slot j)) i z l n (λ g f. apart j h e .count (4 * g) (omega arith)) ∙ q)
       (λ j h e dat sgn from l q. values-other dat sgn (valuesOf c) (valued c p (line c p slot j)) from l refl n (apart j h e .coefficient) ∙ q)
       s at raws cells refl
-
-  -- and none behind those of the components
-  pub packet-behind : Slotted c p slot → (n : ℕ) → start (c .shape) (c .shape .nc) ≤ n → cell (packet s c p slot at raws cells .1) n ≡ cell cells n
-  packet-behind h n k =
-      packet-other n (λ j f e. record {
-        coefficient = λ x l q. omega (arith, lies c p slot j h f e .inside x l);
-        count = λ x l q. omega (arith, lies c p slot j h f e .inside x l);
-      })
 
 -- ---- the size of what the cells hold
 

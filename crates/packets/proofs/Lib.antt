@@ -5,7 +5,11 @@ pub mod LinePasses
 pub mod Stretches
 pub mod Laws
 pub mod Sites
+pub mod Counts
 pub mod Coefficients
-pub mod Truncations
 pub mod Examples
 pub mod Table
+pub mod Flags
+pub mod Walked
+pub mod Above
+pub mod Nibbles

@@ -2,7 +2,7 @@
 use mathlib.Core.Path.{_≡_, refl, sym, ap, _∙_}
 use mathlib.Core.Bool.{Bool, true, false, not, cond, _&&_, _||_}
 use mathlib.Core.List.{List}
-use Prim.Native.Nat.{ℕ, zero, suc, _+_, _-_, _*_, _/_, _%_, _^_, _≤_, _<_}
+use Prim.Native.Nat.{ℕ, zero, suc, _+_, _*_, _/_, _%_, _^_, _≤_, _<_}
 use native.Mathlib.Omega.{arith}
 use native.Mathlib.Nat.{add-zero}
 use native.Mathlib.Numerals.{add-one}
@@ -12,13 +12,12 @@ use lib.Dec.{eqb}
 use lib.IntN.{ℤ}
 use lib.ListN.{getD}
 use lib.Pow.{pow-mono}
-use Rattle.loops.specs.Run.{Turn, go}
+use Rattle.loops.specs.Run.{go}
 use Rattle.bits.specs.Fields.{field, IsField}
 use Rattle.layout.specs.declared.Line.{Line}
 use Rattle.layout.specs.Headers.{mode-bit, truncation}
 use Rattle.layout.specs.Cells.{start}
 use Rattle.counts.specs.declared.group.Coding.{Coding}
-use Rattle.counts.specs.declared.group.Mode.{Mode}
 use Rattle.counts.specs.declared.group.Mode.the-variants.{NoPrediction, Vertical}
 use Rattle.counts.specs.declared.Line.{Line as Counted}
 use Rattle.counts.specs.declared.Line.the-variants.{Done}
@@ -107,7 +106,7 @@ module _ (s : List ℕ) (c : Setting) (p : Precinct) where
 
 -- ---- a line of counts
 
-vertical-odd : (raw : Bool) (d : ℕ) → modeOf raw d ≡ Vertical → d % 2 ≡ 1
+pub vertical-odd : (raw : Bool) (d : ℕ) → modeOf raw d ≡ Vertical → d % 2 ≡ 1
 vertical-odd true d e = let z : _≡_ {A = ℕ} 0 1 = cc in absurd (omega arith)
 vertical-odd false d e = pick (eqb (d % 2) 0) refl e
   where

@@ -1,27 +1,52 @@
 -- Where a packet is refused: nowhere past the stream in which its precinct ends. Assumes nothing.
 use mathlib.Core.Path.{_≡_, refl}
-use mathlib.Core.List.{List, _++_}
+use mathlib.Core.Bool.{Bool, true, false, cond}
+use mathlib.Core.List.{List, [], _∷_, _++_}
 use Prim.Native.Nat.{ℕ, _≤_}
 use native.Mathlib.Omega.{arith}
 use lib.IntN.{ℤ}
-use Rattle.rows.specs.Rows.{first}
+use lib.ListN.{getD}
+use Rattle.rows.specs.Rows.{check, first, each}
+use Rattle.rows.specs.declared.Check.{Check}
+use Rattle.rows.specs.declared.Row.the-variants.{Mode}
+use Rattle.rows.specs.declared.Field.the-variants.{Dr}
 use Rattle.rows.specs.declared.Verdict.{Verdict}
 use Rattle.rows.specs.declared.Verdict.the-variants.{Fine, Refused}
 use Rattle.rows.proofs.Tables.{held}
-use Rattle.rows.proofs.Sites.{Inside, Sited, sited}
+use Rattle.rows.proofs.Sites.{Inside, Sited, sited, sited-append, sited-each}
+use Rattle.layout.specs.Slots.{sharing}
 use Rattle.counts.specs.declared.Line.{Line as Counted}
 use Rattle.counts.specs.declared.Line.the-variants.{Done, Cut, High}
 use Rattle.packets.specs.declared.Setting.{Setting}
 use Rattle.packets.specs.declared.Precinct.{Precinct}
-use Rattle.packets.specs.Packets.{sgnAt, datAt, headChecks, countChecks, dataChecks, signChecks, valuesBy, afterCounts, countsBy, packet}
-use Rattle.packets.specs.Steps.{countsOf}
-use Rattle.packets.proofs.Stretches.{head-inside}
+use Rattle.packets.specs.Packets.{head, sgnAt, datAt, flagChecks, headChecks, countChecks, dataChecks, signChecks, valuesBy, afterCounts, countsBy, packet, countsOf}
+use Rattle.packets.proofs.Stretches.{behind-flag, head-inside}
 
 -- n is the stream's length, or any other bound of the precinct's place and end
 module _ (s : List ℕ) (c : Setting) (p : Precinct) (slot at n : ℕ) (from : p .at ≤ n) (to : p .end ≤ n) where
+  one-sited : (k : Check) → k .1 ≤ n → (b : Bool) → Sited n (cond b (k ∷ []) [])
+  one-sited k h true = (h, λ holds. tt)
+  one-sited k h false = tt
+
+  flags-sited : (raws : List ℕ) → at ≤ n → Sited n (flagChecks s c p slot at raws)
+  unfolding flagChecks
+  flags-sited raws h = by (c .rl)
+    where
+      f : ℕ → List Check
+      f = λ k. cond (sharing (c .shape) (p .row) slot k) (check Mode at Dr (head s c p slot at .dr) (getD raws k 0) (getD raws k 0) ∷ []) []
+
+      by : (b : Bool) → Sited n (cond b [] (each slot f))
+      by true = tt
+      by false = sited-each n slot f (λ k _. one-sited _ h (sharing (c .shape) (p .row) slot k))
+
   -- the header, which begins in the precinct: a length that fits has the next field begin there too
   head-sited : (raws : List ℕ) → at ≤ p .end → Sited n (headChecks s c p slot at raws)
-  head-sited raws h = (from, λ header. (omega arith, λ flag. (omega arith, λ none. (omega arith, λ sig. (omega arith, λ cnt. tt)))))
+  head-sited raws h = (
+    from,
+    λ header.
+        sited-append n (flagChecks s c p slot at raws) (behind-flag s c p slot at) (flags-sited raws (omega arith)) (λ e.
+        (omega arith, λ none. (omega arith, λ sig. (omega arith, λ cnt. tt)))),
+  )
 
   -- the signs, which are judged where nothing is refused before them
   values-sited : (v : Verdict) (cells : List ℤ) → Inside n v → (v ≡ Fine → sgnAt s c p slot at ≤ n) → Inside n (valuesBy s c p slot at v cells .0)

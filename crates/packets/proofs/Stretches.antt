@@ -7,15 +7,14 @@ use native.Mathlib.Omega.{arith}
 use borrow.Author.Tests.{lt-ltb}
 use lib.Dec.{eqb}
 use lib.IntN.{ℤ}
-use lib.ListN.{length}
 use Rattle.whole.specs.Numbers.{ceilDiv}
-use Rattle.rows.specs.Rows.{check, ample, first}
+use Rattle.rows.specs.Rows.{check, ample, first, then, broken}
 use Rattle.rows.specs.declared.Verdict.{Verdict}
 use Rattle.rows.specs.declared.Verdict.the-variants.{Fine, Refused}
 use Rattle.rows.specs.declared.Row.the-variants.{Value, Length, Count, Mode}
 use Rattle.rows.specs.declared.Field.the-variants.{Packet, Dr, Lsgn, Significance, Counts, Data, Signs}
 use Rattle.rows.specs.declared.Check.{Check}
-use Rattle.rows.proofs.Tables.{held}
+use Rattle.rows.proofs.Tables.{held, append-fine, first-append}
 use Rattle.bits.specs.Packet.{headerBytes}
 use Rattle.bits.specs.declared.packet.PacketHeader.{PacketHeader}
 use Rattle.layout.specs.Slots.{candidates}
@@ -27,8 +26,8 @@ use Rattle.packets.specs.declared.Precinct.{Precinct}
 use Rattle.packets.specs.declared.Parts.{Parts}
 use Rattle.packets.specs.Precincts.{stretch}
 use Rattle.packets.specs.Passes.{marks, packetCounts, packetValues}
-use Rattle.packets.specs.Packets.{leastDr, mostDr, head, raw, Lsig, cntAt, datAt, Lsign, past, headChecks, countChecks, dataChecks, afterValues, valuesBy, afterCounts, countsBy}
-use Rattle.packets.specs.Steps.{Working, IsParts, countsOf}
+use Rattle.packets.specs.Packets.{flagChecks, head, raw, Lsig, sigAt, cntAt, datAt, Lsign, past, headChecks, countChecks, dataChecks, afterValues, valuesBy, afterCounts, countsBy, countsOf}
+use Rattle.packets.specs.Steps.{Working, IsParts, boundFlag}
 use Rattle.packets.proofs.LinePasses.{standing-still}
 
 pub chosen-most : (b : Bool) (x : ℕ) → cond b x 0 ≤ x
@@ -40,6 +39,14 @@ working-still h e = record { within = h .within; standing = standing-still (h .s
 
 pub parts-own : {s : List ℕ} {c : Setting} {p : Precinct} {slot at : ℕ} {r : Parts} → IsParts s c p slot at r → IsParts s c p slot (r .at) r
 parts-own {s} {c} {p} {slot} {at} {r} h = subst (λ (n : ℕ). IsParts s c p slot n r) (sym (h .place)) h
+
+-- the header's checks behind the raw flag's
+abbrev pub behind-flag : List ℕ → Setting → Precinct → ℕ → ℕ → List Check
+behind-flag s c p slot at =
+    check Value (at + (1 + c .widths .dat + c .widths .cnt) / 8) Lsgn (head s c p slot at .lsgn) 0 (cond (c .fs) ample 0)
+    ∷ check Length (sigAt s c p slot at) Significance (p .end - sigAt s c p slot at) (Lsig s c p slot at) ample
+    ∷ check Length (cntAt s c p slot at) Counts (p .end - cntAt s c p slot at) (head s c p slot at .lcnt) ample
+    ∷ []
 
 module _ (s : List ℕ) (c : Setting) (p : Precinct) (slot at : ℕ) where
   -- ---- the places
@@ -76,7 +83,9 @@ module _ (s : List ℕ) (c : Setting) (p : Precinct) (slot at : ℕ) where
   -- ---- the header
 
   module _ {h : PacketHeader} {parts : Parts} (e : h ≡ head s c p slot at) (is : IsParts s c p slot at parts) where
-    pub head-table : (raws : List ℕ) {b lo hi most sig cnt : ℕ} {v : Verdict} → b ≡ headerBytes (c .widths) → lo ≡ leastDr c slot raws → hi ≡ mostDr c slot raws
+    -- `flag` is C.3's rule as the code has it (`flags-table`)
+    pub head-table : (raws : List ℕ) {b lo hi most sig cnt : ℕ} {v : Verdict} → b ≡ headerBytes (c .widths) → lo ≡ boundFlag c slot raws 0 → hi ≡ boundFlag c slot raws 1
+        → first (check Mode at Dr (head s c p slot at .dr) (boundFlag c slot raws 0) (boundFlag c slot raws 1) ∷ []) ≡ first (flagChecks s c p slot at raws)
         → most ≡ cond (c .fs) ample 0 → sig ≡ p .end - parts .sig → cnt ≡ p .end - parts .cnt
         → v ≡ first (
         check Length (p .at) Packet (p .end - at) b ample
@@ -86,10 +95,13 @@ module _ (s : List ℕ) (c : Setting) (p : Precinct) (slot at : ℕ) where
         ∷ check Length (parts .cnt) Counts cnt (h .lcnt) ample
         ∷ [])
         → v ≡ first (headChecks s c p slot at raws)
-    head-table raws {v = v} eb lo hi most sig cnt f =
+    head-table raws {v = v} eb lo hi flag most sig cnt f =
         let left = sig ∙ ap (λ (n : ℕ). p .end - n) (is .sig) in
         let rest = cnt ∙ ap (λ (n : ℕ). p .end - n) (is .cnt) in
         let long : parts .cnt - parts .sig ≡ Lsig s c p slot at = omega (arith, is .sig, is .cnt) in
+        let header = check Length (p .at) Packet (p .end - at) (headerBytes (c .widths)) ample in
+        let own = check Mode at Dr (head s c p slot at .dr) (boundFlag c slot raws 0) (boundFlag c slot raws 1) in
+        let joins = first-append (own ∷ []) (behind-flag s c p slot at) ∙ (λ i. then (flag i) (first (behind-flag s c p slot at))) ∙ sym (first-append (flagChecks s c p slot at raws) (behind-flag s c p slot at)) in
         f ∙ (λ i. first (
         check Length (p .at) Packet (p .end - at) (eb i) ample
         ∷ check Mode at Dr (e i .dr) (lo i) (hi i)
@@ -97,12 +109,15 @@ module _ (s : List ℕ) (c : Setting) (p : Precinct) (slot at : ℕ) where
         ∷ check Length (is .sig i) Significance (left i) (long i) ample
         ∷ check Length (is .cnt i) Counts (rest i) (e i .lcnt) ample
         ∷ []))
+        ∙ (λ i. cond (broken header) (Refused header) (joins i))
 
   -- past the header the counts' stretch lies in the precinct
   pub head-inside : (raws : List ℕ) → at ≤ p .end → first (headChecks s c p slot at raws) ≡ Fine → datAt s c p slot at ≤ p .end
   head-inside raws h e =
-      let t = held (headChecks s c p slot at raws) e in
-      omega (arith, t .0 .least, t .1 .1 .1 .0 .least, t .1 .1 .1 .1 .0 .least)
+      let header = check Length (p .at) Packet (p .end - at) (headerBytes (c .widths)) ample in
+      let both = append-fine (header ∷ []) (flagChecks s c p slot at raws ++ behind-flag s c p slot at) e in
+      let t = held (behind-flag s c p slot at) (append-fine (flagChecks s c p slot at raws) (behind-flag s c p slot at) (both .1) .1) in
+      omega (arith, held (header ∷ []) (both .0) .0 .least, t .1 .0 .least, t .1 .1 .0 .least)
 
   module _ {parts : Parts} (is : IsParts s c p slot at parts) where
     -- the lengths are the differences of the places

@@ -1,7 +1,7 @@
 -- The verdict of a packet is that of one table. Assumes nothing.
 use Prim.Native.Nat.{ℕ}
 use mathlib.Core.List.{List, _++_, append-assoc}
-use mathlib.Core.Path.{_≡_, refl, sym, ap, _∙_}
+use mathlib.Core.Path.{_≡_, refl, ap, _∙_}
 use lib.IntN.{ℤ}
 use Rattle.rows.specs.Rows.{first, then}
 use Rattle.rows.specs.declared.Check.{Check}
@@ -10,8 +10,7 @@ use Rattle.rows.specs.declared.Verdict.the-variants.{Fine, Refused}
 use Rattle.rows.proofs.Tables.{joined}
 use Rattle.packets.specs.declared.Setting.{Setting}
 use Rattle.packets.specs.declared.Precinct.{Precinct}
-use Rattle.packets.specs.Packets.{headChecks, countChecks, dataChecks, signChecks, valuesBy, countsBy, packet}
-use Rattle.packets.specs.Steps.{countsOf}
+use Rattle.packets.specs.Packets.{headChecks, countChecks, dataChecks, signChecks, valuesBy, countsBy, packet, countsOf}
 use Rattle.packets.specs.Table.{valuesAfter, packetChecks}
 
 module _ (s : List ℕ) (c : Setting) (p : Precinct) (slot at : ℕ) (raws : List ℕ) (cells : List ℤ) where

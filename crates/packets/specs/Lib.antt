@@ -5,3 +5,6 @@ pub mod Passes
 pub mod Packets
 pub mod Steps
 pub mod Table
+pub mod Stored
+pub mod Walked
+pub mod Counted

@@ -1,13 +1,13 @@
 -- C.3 and C.4: a packet, its header and its subpackets in their order. Each subpacket is judged whole before the next: does it run past the precinct,
 -- then its content. `slot` says which of its precinct's packets it is, `at` where its header stands.
 use Prim.Native.Nat.{ℕ, zero, suc, _+_, _-_, _/_}
-use mathlib.Core.Bool.{Bool, false, not, cond, _&&_, _||_}
+use mathlib.Core.Bool.{Bool, false, cond, _||_}
 use mathlib.Core.List.{List, [], _∷_, _++_}
-use lib.Dec.{eqb, leb}
+use lib.Dec.{eqb}
 use lib.IntN.{ℤ}
 use lib.ListN.{getD}
 use Rattle.whole.specs.Numbers.{ceilDiv}
-use Rattle.rows.specs.Rows.{check, ample, first}
+use Rattle.rows.specs.Rows.{check, ample, first, each}
 use Rattle.rows.specs.declared.Check.{Check}
 use Rattle.rows.specs.declared.Verdict.{Verdict}
 use Rattle.rows.specs.declared.Verdict.the-variants.{Fine, Refused}
@@ -15,7 +15,7 @@ use Rattle.rows.specs.declared.Row.the-variants.{Value, Length, Count, Mode}
 use Rattle.rows.specs.declared.Field.the-variants.{Packet, Dr, Lsgn, Significance, Counts, Data, Signs}
 use Rattle.bits.specs.Packet.{headerAt, headerBytes}
 use Rattle.bits.specs.declared.packet.PacketHeader.{PacketHeader}
-use Rattle.layout.specs.Slots.{candidates}
+use Rattle.layout.specs.Slots.{candidates, sharing}
 use Rattle.counts.specs.declared.Line.{Line as Counted}
 use Rattle.counts.specs.declared.Line.the-variants.{Done, Cut, High}
 use Rattle.values.specs.declared.Next.{Next}
@@ -28,20 +28,6 @@ use Rattle.packets.specs.Passes.{line, marks, packetCounts, packetValues
 unfoldable pub anyLine : Setting → Precinct → ℕ → ℕ → Bool
 anyLine c p slot zero = false
 anyLine c p slot (suc n) = anyLine c p slot n || line c p slot n .present
-
--- C.3: two packets of a precinct share bands where they are two lines of one filter type: slots 7, 8 and 9 follow slots 4, 5 and 6. With Rl = 0 they have
--- one raw flag. `raws` are the flags of the earlier slots
-abbrev pub second : ℕ → Bool
-second slot = leb 7 slot
-
-abbrev pub bound : Setting → ℕ → Bool
-bound c slot = not (c .rl) && second slot
-
-abbrev pub leastDr : Setting → ℕ → List ℕ → ℕ
-leastDr c slot raws = cond (bound c slot) (getD raws (slot - 3) 0) 0
-
-abbrev pub mostDr : Setting → ℕ → List ℕ → ℕ
-mostDr c slot raws = cond (bound c slot) (getD raws (slot - 3) 0) 1
 
 module _ (s : List ℕ) (c : Setting) (p : Precinct) (slot at : ℕ) where
   -- Table C.4
@@ -74,15 +60,35 @@ module _ (s : List ℕ) (c : Setting) (p : Precinct) (slot at : ℕ) where
   abbrev pub past : ℕ
   past = sgnAt + Lsign
 
+  -- document 01: 'Each decoder is given only its own stretch of bytes'
+  abbrev pub markBytes : List ℕ
+  markBytes = stretch s sigAt Lsig
+
+  abbrev pub countBytes : List ℕ
+  countBytes = stretch s cntAt (head .lcnt)
+
+  abbrev pub dataBytes : List ℕ
+  dataBytes = stretch s datAt (head .ldat)
+
+  abbrev pub signBytes : List ℕ
+  signBytes = stretch s sgnAt Lsign
+
+  -- C.3, where Rl = 0: 'the Dr[p,s] flag shall be identical for all packets s that include band b within precinct p'. The packet has the flag of each earlier
+  -- one of its precinct with which it shares a band. `raws` are the flags of the earlier slots
+  unfoldable pub flagChecks : List ℕ → List Check
+  flagChecks raws =
+      cond (c .rl) []
+      (each slot (λ k. cond (sharing (c .shape) (p .row) slot k) (check Mode at Dr (head .dr) (getD raws k 0) (getD raws k 0) ∷ []) []))
+
   -- the header, as far as the counts' length: 'a packet header runs past its precinct' and, of the subpackets, 'runs past its precinct' are 6
   abbrev pub headChecks : List ℕ → List Check
   headChecks raws =
       check Length (p .at) Packet (p .end - at) (headerBytes (c .widths)) ample
-      ∷ check Mode at Dr (head .dr) (leastDr c slot raws) (mostDr c slot raws)
-      ∷ check Value (at + (1 + c .widths .dat + c .widths .cnt) / 8) Lsgn (head .lsgn) 0 (cond (c .fs) ample 0)
+      ∷ (flagChecks raws
+      ++ (check Value (at + (1 + c .widths .dat + c .widths .cnt) / 8) Lsgn (head .lsgn) 0 (cond (c .fs) ample 0)
       ∷ check Length sigAt Significance (p .end - sigAt) Lsig ample
       ∷ check Length cntAt Counts (p .end - cntAt) (head .lcnt) ample
-      ∷ []
+      ∷ []))
 
   -- the counts: a code that is cut wants more bytes than are declared
   abbrev pub countChecks : Counted → List Check
@@ -112,14 +118,18 @@ module _ (s : List ℕ) (c : Setting) (p : Precinct) (slot at : ℕ) where
   afterValues x = (first (signChecks (x .0 .sign)), x .1)
 
   abbrev pub valuesBy : Verdict → List ℤ → Left
-  valuesBy Fine cells = afterValues (packetValues c p slot (stretch s datAt (head .ldat)) (stretch s sgnAt Lsign) cells)
+  valuesBy Fine cells = afterValues (packetValues c p slot dataBytes signBytes cells)
   valuesBy (Refused k) cells = (Refused k, cells)
 
   abbrev pub afterCounts : Counted × List ℤ → Left
   afterCounts x = valuesBy (first (countChecks (x .0) ++ dataChecks (x .0))) (x .1)
 
+  -- the counts, from their own stretch and that of the significance flags
+  abbrev pub countsOf : List ℤ → Counted × List ℤ
+  countsOf cells = packetCounts s c p slot countBytes markBytes raw cells
+
   abbrev pub countsBy : Verdict → List ℤ → Left
-  countsBy Fine cells = afterCounts (packetCounts s c p slot (stretch s cntAt (head .lcnt)) (stretch s sigAt Lsig) raw cells)
+  countsBy Fine cells = afterCounts (countsOf cells)
   countsBy (Refused k) cells = (Refused k, cells)
 
   unfoldable pub packet : List ℕ → List ℤ → Left

@@ -42,6 +42,7 @@ marks s c p slot raw (suc j) = marks s c p slot raw j + flags s c p raw (line c 
 
 -- ---- Table C.8
 
+-- Dr == 1, which is `raw`; else (D & 1) == 0; else
 abbrev pub modeOf : Bool → ℕ → Mode
 modeOf raw d = cond raw Raw (cond (eqb (d % 2) 0) NoPrediction Vertical)
 
@@ -51,7 +52,7 @@ codingOf s c p raw b =
       mode = modeOf raw (D s c p b);
       flags = eqb (D s c p b / 2) 1;
       run = c .rm;
-      signs = not (c .fs);
+      fs = c .fs;
       t = T c p b;
       br = c .br;
     }

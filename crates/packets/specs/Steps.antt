@@ -1,10 +1,11 @@
 -- What the steps of a packet ask and answer.
-use Prim.Native.Nat.{ℕ, _+_, _*_, _^_, _≤_, _<_}
+use Prim.Native.Nat.{ℕ, _+_, _*_, _-_, _^_, _≤_, _<_}
 use mathlib.Core.Path.{_≡_}
-use mathlib.Core.Bool.{Bool, true, cond}
+use mathlib.Core.Bool.{Bool, true, not, cond, _&&_}
 use mathlib.Core.List.{List}
 use lib.IntN.{ℤ}
-use lib.ListN.{length}
+use lib.ListN.{length, getD}
+use lib.Dec.{leb}
 use Rattle.rows.specs.Rows.{first}
 use Rattle.rows.specs.declared.Verdict.the-variants.{Fine}
 use Rattle.layout.specs.declared.Shape.{Shape}
@@ -22,10 +23,10 @@ use Rattle.packets.specs.declared.Precinct.{Precinct}
 use Rattle.packets.specs.declared.Parts.{Parts}
 use Rattle.packets.specs.declared.Opened.{Opened}
 use Rattle.packets.specs.declared.Outcome.{Outcome}
-use Rattle.packets.specs.Precincts.{D, T, stretch}
+use Rattle.packets.specs.Precincts.{D, T}
 use Rattle.packets.specs.Ready.{Slotted, Standing}
-use Rattle.packets.specs.Passes.{marks, flags, codingOf, placeOf, valuesOf, valued, packetCounts}
-use Rattle.packets.specs.Packets.{head, raw, Lsig, sigAt, cntAt, datAt, sgnAt, past, headChecks, packet}
+use Rattle.packets.specs.Passes.{marks, flags, codingOf, placeOf, valuesOf, valued}
+use Rattle.packets.specs.Packets.{head, raw, sigAt, cntAt, datAt, sgnAt, past, headChecks, packet}
 
 -- ---- what is asked: a slot of a precinct with the stream, and with n cells
 
@@ -67,6 +68,14 @@ pub record AllMarks (s : List ℕ) (c : Setting) (p : Precinct) (slot : ℕ) (ra
   pub value : r ≡ marks s c p slot raw (candidates (c .shape) slot)
   pub small : r < 2 ^ 40
 
+-- the first slot that shares a band with an earlier one, which is the third before it
+abbrev pub firstBound : ℕ
+firstBound = 7
+
+-- the flag to compare with, by the number of the slot. `flags-table` shows that this is C.3's rule
+abbrev pub boundFlag : Setting → ℕ → List ℕ → ℕ → ℕ
+boundFlag c slot raws free = cond (not (c .rl) && leb firstBound slot) (getD raws (slot - 3) 0) free
+
 -- a candidate's counts, and its values: nothing where it is not there
 abbrev pub countLine : List ℕ → Setting → Precinct → List ℕ → List ℕ → Bool → Line → ℕ → ℕ → List ℤ → Counted × List ℤ
 countLine s c p cnt sig raw l at z cells = cond (l .present) (lineCounts cnt sig (codingOf s c p raw (l .band)) (placeOf l) at z cells) (Done at 0, cells)
@@ -75,10 +84,6 @@ abbrev pub valueLine : Setting → Precinct → List ℕ → List ℕ → Line �
 valueLine c p dat sgn l from cells = cond (l .present) (lineValues dat sgn (valuesOf c) (valued c p l) from cells) (from, cells)
 
 module _ (s : List ℕ) (c : Setting) (p : Precinct) (slot at : ℕ) where
-  -- the counts, from their own stretch
-  abbrev pub countsOf : List ℤ → Counted × List ℤ
-  countsOf cells = packetCounts s c p slot (stretch s (cntAt s c p slot at) (head s c p slot at .lcnt)) (stretch s (sigAt s c p slot at) (Lsig s c p slot at)) (raw s c p slot at) cells
-
   pub record IsParts (r : Parts) : Type 0 where
     pub place : r .at ≡ at
     pub raw : r .raw ≡ raw s c p slot at

@@ -6,19 +6,13 @@ use Rattle.rows.specs.declared.Check.{Check}
 use Rattle.values.specs.declared.Next.{Next}
 use Rattle.packets.specs.declared.Setting.{Setting}
 use Rattle.packets.specs.declared.Precinct.{Precinct}
-use Rattle.packets.specs.Precincts.{stretch}
 use Rattle.packets.specs.Passes.{packetValues}
-use Rattle.packets.specs.Packets.{head, datAt, sgnAt, Lsign, headChecks, countChecks, dataChecks, signChecks}
-use Rattle.packets.specs.Steps.{countsOf}
+use Rattle.packets.specs.Packets.{dataBytes, signBytes, headChecks, countChecks, dataChecks, signChecks, countsOf}
 
 module _ (s : List ℕ) (c : Setting) (p : Precinct) (slot at : ℕ) where
   -- the values, behind the counts
   abbrev pub valuesAfter : List ℤ → Next × List ℤ
-  valuesAfter cells =
-      packetValues c p slot
-      (stretch s (datAt s c p slot at) (head s c p slot at .ldat))
-      (stretch s (sgnAt s c p slot at) (Lsign s c p slot at))
-      (countsOf s c p slot at cells .1)
+  valuesAfter cells = packetValues c p slot (dataBytes s c p slot at) (signBytes s c p slot at) (countsOf s c p slot at cells .1)
 
   -- the header as far as the counts' length, the counts, the data, the signs. `raws` are the raw flags of the earlier slots, `cells` what they leave
   unfoldable pub packetChecks : List ℕ → List ℤ → List Check

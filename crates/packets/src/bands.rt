@@ -7,7 +7,7 @@ ghost use Rattle.packets.specs.Ready.{Settled};
 ghost use Rattle.packets.specs.Steps.{IsMode, IsTruncation};
 
 // D[p,b].
-pub fn mode_of(s: &[u8], c: Setting, p: Precinct, b: usize) -> usize
+pub(crate) fn mode_of(s: &[u8], c: Setting, p: Precinct, b: usize) -> usize
     requires { ⌜ Settled c × (p .at < 2 ^ 32) × (b < NL (c .shape)) ⌝ }
     ensures { λ r. ⌜ IsMode (now (s .entry)) c p b r ⌝ }
 {

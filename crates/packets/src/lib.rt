@@ -12,16 +12,16 @@ use rows::HOLDS;
 use rows::Row;
 use rows::Verdict;
 ghost use mathlib.Core.Path.{_≡_};
-ghost use mathlib.Core.Bool.{cond};
+ghost use mathlib.Core.Bool.{true, cond};
 ghost use Prim.Native.Nat.{_-_, _≤_, _<_};
 ghost use lib.ListN.{length, getD};
 ghost use Rattle.whole.specs.Numbers.{ceilDiv};
 ghost use Rattle.rows.specs.declared.Verdict.the-variants.{Fine};
 ghost use Rattle.bits.specs.Packet.{IsHeader};
-ghost use Rattle.layout.specs.Slots.{slots};
-ghost use Rattle.packets.specs.Packets.{bound, valuesBy, afterCounts, countsBy};
+ghost use Rattle.layout.specs.Slots.{slots, candidates};
+ghost use Rattle.packets.specs.Packets.{anyLine, valuesBy, afterCounts, countsBy, countsOf};
 ghost use Rattle.packets.specs.Ready.{Settled, Standing};
-ghost use Rattle.packets.specs.Steps.{Within, Working, IsParts, Opening, Decoded, countsOf};
+ghost use Rattle.packets.specs.Steps.{Within, Working, IsParts, Opening, Decoded, boundFlag};
 
 // What Annex C needs of the headers: Annex B's shape, the widths of a packet header, Br, Fq, whether Qpih selects the uniform quantiser, whether Fs, Rm
 // and Rl are 1, and gain and priority of each band.
@@ -96,7 +96,7 @@ fn bytes_of_nibbles(n: usize) -> usize
 // The raw flag of the packet before that shares bands with this one, where there is one and Rl = 0.
 fn bound_flag(c: Setting, slot: usize, raws: [usize; 10], free: usize) -> usize
     requires { ⌜ slot < 10 ⌝ }
-    ensures { λ r. ⌜ r ≡ cond (bound c slot) (getD raws (slot - 3) 0) free ⌝ }
+    ensures { λ r. ⌜ r ≡ boundFlag c slot raws free ⌝ }
 {
     if c.rl {
         return free;
@@ -130,7 +130,7 @@ fn parts_of(s: &[u8], c: Setting, p: Precinct, slot: usize, at: usize, h: Packet
 
 // The header of a packet, judged as far as the length of the counts.
 fn open(s: &[u8], c: Setting, p: Precinct, slot: usize, at: usize, raws: [usize; 10]) -> Opened
-    requires { ⌜ Within (now s) c p slot × (at ≤ p .end) ⌝ }
+    requires { ⌜ Within (now s) c p slot × (at ≤ p .end) × (anyLine c p slot (candidates (c .shape) slot) ≡ true) ⌝ }
     ensures { λ r. ⌜ Opening (now (s .entry)) c p slot at raws r ⌝ }
 {
     let widths = c.widths;
@@ -293,7 +293,7 @@ fn counts_by(
     }
 }
 
-// The packet of a slot, whose header stands at `at`. `raws` are the raw flags of the slots before.
+// The packet of a slot that has lines, whose header stands at `at`. `raws` are the raw flags of the slots before.
 pub fn packet(
     s: &[u8],
     cells: &mut [i64],
@@ -303,7 +303,7 @@ pub fn packet(
     at: usize,
     raws: [usize; 10],
 ) -> Outcome
-    requires { ⌜ Settled c × Standing (now s) c p (length (now cells)) × (at ≤ p .end) × (slot < slots (c .shape)) ⌝ }
+    requires { ⌜ Settled c × Standing (now s) c p (length (now cells)) × (at ≤ p .end) × (slot < slots (c .shape)) × (anyLine c p slot (candidates (c .shape) slot) ≡ true) ⌝ }
     ensures { λ r. ⌜ Decoded (now (s .entry)) c p slot at raws (now (cells .entry)) r (now (cells .exit)) ⌝ }
 {
     let o = open(s, c, p, slot, at, raws);

@@ -64,7 +64,7 @@ fn marks_of(s: &[u8], c: Setting, p: Precinct, l: Line, raw: bool) -> usize
 }
 
 // The significance flags of all lines.
-pub fn all_marks(s: &[u8], c: Setting, p: Precinct, slot: usize, raw: bool) -> usize
+pub(crate) fn all_marks(s: &[u8], c: Setting, p: Precinct, slot: usize, raw: bool) -> usize
     requires { ⌜ Within (now s) c p slot ⌝ }
     ensures { λ r. ⌜ AllMarks (now (s .entry)) c p slot raw r ⌝ }
 {
@@ -102,7 +102,7 @@ fn coding_of(s: &[u8], c: Setting, p: Precinct, b: usize, raw: bool) -> Coding
         mode: mode_by(raw, d),
         flags: d / 2 == 1,
         run: c.rm,
-        signs: !c.fs,
+        fs: c.fs,
         t: truncation_of(c, p, b),
         br: c.br,
     }
@@ -139,7 +139,7 @@ fn count_line(
 }
 
 // The counts of all lines, from their stretch and that of the significance flags.
-pub fn packet_counts(
+pub(crate) fn packet_counts(
     s: &[u8],
     cnt: &[u8],
     sig: &[u8],
@@ -213,7 +213,7 @@ fn value_line(
 }
 
 // The values of all lines, from the stretches of the data and of the signs.
-pub fn packet_values(
+pub(crate) fn packet_values(
     dat: &[u8],
     sgn: &[u8],
     cells: &mut [i64],

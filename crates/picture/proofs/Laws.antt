@@ -6,7 +6,7 @@ use mathlib.Core.Path.{_≡_}
 use native.Mathlib.Decide.{decLt}
 use native.Mathlib.Omega.{arith}
 use borrow.Author.Tests.{lt-ltb}
-use lib.Dec.{ltb, lit≤}
+use lib.Dec.{eqb, ltb, lit≤}
 use lib.ListN.{length}
 use Rattle.bits.specs.Fields.{fieldAt}
 use Rattle.bits.proofs.Laws.{field-lt}
@@ -35,9 +35,8 @@ ends s p f least most l e =
 
 -- ---- the picture header
 
-bw-range : (bw : ℕ) (a b : Bool) → cond a 20 8 ≤ bw → bw ≤ cond b 16 20 → (8 ≤ bw) × (bw ≤ 20)
-bw-range bw true true l m = omega arith
-bw-range bw true false l m = omega arith
+bw-range : (bw : ℕ) (a b : Bool) → cond a 8 (cond b 18 20) ≤ bw → bw ≤ cond a 16 (cond b 18 20) → (8 ≤ bw) × (bw ≤ 20)
+bw-range bw true b l m = omega arith
 bw-range bw false true l m = omega arith
 bw-range bw false false l m = omega arith
 
@@ -61,7 +60,7 @@ built s n p e =
       cw = field-lt s _ 16;
       hsl = (z .1 .1 .1 .1 .1 .1 .0 .least, field-lt s _ 16);
       nc = (b .1 .0 .least, b .1 .0 .most);
-      bw = bw-range (h .bw) (ltb 18 (h .bw)) (ltb (h .bw) 18) (b .1 .1 .1 .1 .0 .least) (b .1 .1 .1 .1 .0 .most);
+      bw = bw-range (h .bw) (ltb (h .bw) 18) (eqb (h .bw) 18) (b .1 .1 .1 .1 .0 .least) (b .1 .1 .1 .1 .0 .most);
       fq = omega (arith, b .1 .1 .1 .1 .1 .1 .0 .least, b .1 .1 .1 .1 .1 .1 .0 .most);
       br = omega (arith, b .1 .1 .1 .1 .1 .1 .1 .0 .least, b .1 .1 .1 .1 .1 .1 .1 .0 .most);
       cpih = m .1 .1 .1 .1 .0 .most;

@@ -1,4 +1,4 @@
--- Table A.2: the codes of the markers, and the type of the extension that is the bench caption.
+-- Table A.2: the codes of the markers.
 use Prim.Native.Nat.{ℕ}
 
 abbrev pub SOC : ℕ
@@ -46,5 +46,6 @@ SLI = 0xff21
 abbrev pub CAP : ℕ
 CAP = 0xff50
 
+-- document 01: 'Bench captions use 0x8B01', a type of extension
 abbrev pub CAPTION : ℕ
 CAPTION = 0x8b01

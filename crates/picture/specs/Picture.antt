@@ -5,6 +5,7 @@ use mathlib.Core.List.{List, [], _∷_, _++_}
 use mathlib.Core.Path.{_≡_}
 use lib.Dec.{eqb, leb, ltb}
 use Rattle.bits.specs.Fields.{field, fieldAt}
+use Rattle.bits.specs.Groups.{Ng as codeGroup, Ss as significanceGroup}
 use Rattle.rows.specs.Rows.{check, ample}
 use Rattle.rows.specs.declared.Check.{Check}
 use Rattle.rows.specs.declared.Field.the-variants.{Lcod, Wf, Hf, Hsl, Nc, Ng, Ss, Bw, Fq, Br, Fslc, Ppoc, Cpih, Nlx, Nly, Qpih, Fs, Rm}
@@ -73,8 +74,9 @@ noPicture =
       rm = 0;
     }
 
--- Table A.7, Lcod to Hsl, for a stream of n bytes. Profile and level (p + 8, p + 10) are not judged; Cw (p + 16) is, in the component table.
--- 'Lcod is neither 0 nor the lent length' is 6, 'an undeclared length (Lcod 0)' 4. Widths and heights of 1 to 16,384 and 1 to 4 components are built
+-- Table A.7, Lcod to Hsl, for a stream of n bytes. Document 01: 'Lcod is neither 0 nor the lent length' is answered 6, 'an undeclared length (Lcod 0)' 4;
+-- profile and level (p + 8, p + 10) are 'read and not judged'; widths and heights of 1 to 16,384 are built, and its rule of two samples to each filter, in the
+-- component table, stands for the least that Table A.7 asks of Wf and Hf. Cw (p + 16) is judged there too, with every sx
 abbrev pub sizeChecks : ℕ → ℕ → Picture → List Check
 sizeChecks n p h =
     check Lacking (p + 4) Lcod (h .lcod) 1 ample
@@ -86,38 +88,38 @@ sizeChecks n p h =
     ∷ check Value (p + 18) Hsl (h .hsl) 1 0xffff
     ∷ []
 
--- Table A.8: Bw is from 8 to 16, 18 or 20. Below 18 there is 8 to 16, above it 20
+-- Table A.8: Bw is B[0], which is 8 to 16, or 18 or 20. So it is 8 to 16 below 18, 18 there, and 20 above
 abbrev pub leastBw : ℕ → ℕ
-leastBw bw = cond (ltb 18 bw) 20 8
+leastBw bw = cond (ltb bw 18) 8 (cond (eqb bw 18) 18 20)
 
 abbrev pub mostBw : ℕ → ℕ
-mostBw bw = cond (ltb bw 18) 16 20
+mostBw bw = cond (ltb bw 18) 16 (cond (eqb bw 18) 18 20)
 
--- Table A.8: fractional bits are 8 for Bw 20 and else 0; a raw count has 4 bits for Bw 20 or up to 12, else 5
+-- Table A.8, for the Bw that are built, without 18: Fq is 8 for Bw 20 and else 0, Br is 4 for Bw 20 or up to 12 and else 5
 abbrev pub fqFor : ℕ → ℕ
 fqFor bw = cond (eqb bw 20) 8 0
 
 abbrev pub brFor : ℕ → ℕ
 brFor bw = cond (leb bw 12 || eqb bw 20) 4 5
 
--- Table A.7, Nc to Br. Bw 18 goes with non-linear output, which is not built
+-- Table A.7, Nc to Br. Document 01: 1 to 4 components are built, and non-linear output is not, which Table A.8 binds to Bw 18
 abbrev pub precisionChecks : ℕ → Picture → List Check
 precisionChecks p h =
     check Value (p + 20) Nc (h .nc) 1 8
     ∷ check Lacking (p + 20) Nc (h .nc) 1 4
-    ∷ check Value (p + 21) Ng (h .ng) 4 4
-    ∷ check Value (p + 22) Ss (h .ss) 8 8
+    ∷ check Value (p + 21) Ng (h .ng) codeGroup codeGroup
+    ∷ check Value (p + 22) Ss (h .ss) significanceGroup significanceGroup
     ∷ check Value (p + 23) Bw (h .bw) (leastBw (h .bw)) (mostBw (h .bw))
-    ∷ check Lacking (p + 23) Bw (h .bw) (cond (ltb 16 (h .bw)) 20 8) 20
+    ∷ check Lacking (p + 23) Bw (h .bw) (cond (eqb (h .bw) 18) 20 8) 20
     ∷ check Value (p + 24) Fq (h .fq) (fqFor (h .bw)) (fqFor (h .bw))
     ∷ check Value (p + 24) Br (h .br) (brFor (h .bw)) (brFor (h .bw))
     ∷ []
 
--- Table A.9: no transform, the reversible one of three components (1) and Star-Tetrix, of four (3)
+-- F.2: Cpih is 0 with fewer than three components, and below 2 with fewer than four. Table A.9 goes to 3
 abbrev pub mostCpih : ℕ → ℕ
 mostCpih nc = cond (ltb nc 3) 0 (cond (ltb nc 4) 1 3)
 
--- Table A.7, Fslc to Cpih, with Tables A.9, A.13 and A.14: 2 is reserved, and Star-Tetrix not built
+-- Table A.7, Fslc to Cpih, with Tables A.14, A.13 and A.9, where 2 and 4 to 15 are reserved: beside 2 the least is 3. Document 01: Star-Tetrix (3) is not built
 abbrev pub modeChecks : ℕ → Picture → List Check
 modeChecks p h =
     check Value (p + 25) Fslc (h .fslc) 0 0
@@ -127,7 +129,8 @@ modeChecks p h =
     ∷ check Lacking (p + 25) Cpih (h .cpih) 0 1
     ∷ []
 
--- Table A.7, NLx to Rm, with Tables A.10 to A.12. NLy is at most min(NLx, 6); more than 5 levels across or 2 down are not built
+-- Table A.7, NLx to Rm, with Tables A.10 to A.12. NLy is at most min(NLx, 6); its least joins it with every sy, and is judged at each. Document 01: at most 5
+-- levels across and 2 down are built
 abbrev pub levelChecks : ℕ → Picture → List Check
 levelChecks p h =
     check Value (p + 26) Nlx (h .nlx) 1 8

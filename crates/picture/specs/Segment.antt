@@ -26,7 +26,8 @@ markerChecks g field code =
     ∷ check Marker (g .at) field (g .marker) code code
     ∷ []
 
--- 'A marker segment that runs past the stream is answered 1 at its length field', and so is a cut field; then a wrong length is 3
+-- document 01: 'A marker segment that runs past the stream is answered 1 at its length field', and so is one whose length field is cut. A.3: a length that 'does
+-- not match the specified value or is not in the specified range' is ill-formed, and answered 3
 abbrev pub lengthChecks : Segment → Field → ℕ → ℕ → List Check
 lengthChecks g field least most =
     check Cut (g .at + 2) field (g .rest) 2 ample

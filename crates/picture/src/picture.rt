@@ -39,7 +39,7 @@ pub struct Picture {
 
 impl Picture {
     // The picture header whose marker stands at p.
-    pub fn read(s: &[u8], p: usize) -> Self
+    pub(crate) fn read(s: &[u8], p: usize) -> Self
         requires { ⌜ p < 2 ^ 32 ⌝ }
         ensures { λ r. ⌜ r ≡ pictureAt (now (s .entry)) p ⌝ }
     {
@@ -129,9 +129,10 @@ fn precision_row(p: usize, h: Picture) -> Verdict
     ensures { λ r. ⌜ r ≡ first (precisionChecks p h) ⌝ }
 {
     let bw = h.bw;
-    let least = rows::choose(18 < bw, 20, 8);
-    let most = rows::choose(bw < 18, 16, 20);
-    let built = rows::choose(16 < bw, 20, 8);
+    let wide = rows::choose(bw == 18, 18, 20);
+    let least = rows::choose(bw < 18, 8, wide);
+    let most = rows::choose(bw < 18, 16, wide);
+    let built = rows::choose(bw == 18, 20, 8);
     let fq = rows::choose(bw == 20, 8, 0);
     let br = rows::choose((bw <= 12) | (bw == 20), 4, 5);
     rows::first([
@@ -184,7 +185,7 @@ fn level_row(p: usize, h: Picture) -> Verdict
 }
 
 // All fields of the picture header at p, in a stream of n bytes.
-pub fn field_row(n: usize, p: usize, h: Picture) -> Verdict
+pub(crate) fn field_row(n: usize, p: usize, h: Picture) -> Verdict
     requires { ⌜ p < 2 ^ 32 ⌝ }
     ensures { λ r. ⌜ r ≡ first (fieldChecks n p h) ⌝ }
 {

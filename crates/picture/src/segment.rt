@@ -47,7 +47,7 @@ impl Segment {
 }
 
 // A segment whose marker is fixed.
-pub fn marker_row(g: Segment, field: Field, code: usize) -> Verdict
+pub(crate) fn marker_row(g: Segment, field: Field, code: usize) -> Verdict
     ensures { λ r. ⌜ r ≡ first (markerChecks g field code) ⌝ }
 {
     rows::two(

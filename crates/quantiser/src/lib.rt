@@ -65,7 +65,7 @@ fn with_sign(x: i64, n: u64) -> i64
 }
 
 // The coefficient of a signed index.
-pub fn coefficient(uniform: bool, m: u64, t: u64, index: i64) -> i64
+fn coefficient(uniform: bool, m: u64, t: u64, index: i64) -> i64
     requires { ⌜ Carried m t (natAbs index) ⌝ }
     ensures { λ r. ⌜ r ≡ coefficientOf uniform m t index ⌝ }
 {

@@ -13,7 +13,7 @@ use Rattle.header.specs.declared.header.Header.{Header}
 use Rattle.shapes.specs.Shapes.{shapeOf}
 use Rattle.layout.specs.declared.Shape.{Shape}
 use Rattle.layout.specs.Bands.{Wc}
-use Rattle.layout.specs.Cells.{area, start}
+use Rattle.layout.specs.Cells.{start}
 use Rattle.layout.proofs.Cells.{starts-up}
 use Rattle.packets.specs.declared.Setting.{Setting}
 use Rattle.slices.specs.Slice.{State, Left}

@@ -19,7 +19,7 @@ use Rattle.planes.specs.Values.{Coefficients}
 use Rattle.reader.specs.declared.page.Page.{Page}
 use Rattle.reader.specs.Settings.{N, roomChecks}
 use Rattle.reader.specs.Decoding.{samplesFrom, handed, decodedVerdict, coefficients}
-use Rattle.reader.specs.Page.{headerOf, lentVerdict, verdict, samplesBy, workBy, pageRefused, Leaves, Reads}
+use Rattle.reader.specs.Page.{headerOf, lentVerdict, verdict, samplesBy, pageRefused, Leaves, Reads}
 use Rattle.reader.specs.Steps.{filledBy, Decodes}
 
 -- row 5 has passed

@@ -17,7 +17,7 @@ use Rattle.layout.specs.declared.bands.Component.{Component}
 use Rattle.header.specs.Header.{readingOf}
 use Rattle.header.specs.Accepted.{Ranges, Sampled}
 use Rattle.header.specs.declared.header.Header.{Header}
-use Rattle.header.proofs.Sound.{accepted-header}
+use Rattle.header.proofs.Accepted.{accepted-header}
 use Rattle.shapes.specs.Shapes.{shapeOf}
 use Rattle.shapes.proofs.Accepted.{built}
 use Rattle.packets.specs.Ready.{Settled}
@@ -25,7 +25,7 @@ use Rattle.planes.specs.Places.{Colours, Depths}
 use Rattle.reader.specs.Settings.{settingOf, depthOf}
 use Rattle.reader.specs.Sizes.{sizeOf}
 use Rattle.reader.specs.Steps.{Opened}
-use Rattle.reader.specs.declared.page.Size.{Size}
+use Rattle.reader.specs.declared.records.Size.{Size}
 
 pub opened : (s : List ℕ) → readingOf s .verdict ≡ Fine → Opened s (readingOf s .header)
 opened s e = record { accepted = accepted-header s e; shape = built s e }

@@ -6,7 +6,7 @@ use Rattle.layout.specs.Bands.{Wc, Hc}
 use Rattle.header.specs.declared.header.Header.{Header}
 use Rattle.shapes.specs.Shapes.{shapeOf}
 use Rattle.reader.specs.Settings.{depthOf}
-use Rattle.reader.specs.declared.page.Size.{Size}
+use Rattle.reader.specs.declared.records.Size.{Size}
 
 abbrev pub sizeOf : Header → ℕ → Size
 sizeOf h i =

@@ -1,8 +1,11 @@
 // Reads a page: the header, row 5, the slices into the work cells, then samples and distances.
 pub mod page;
+mod records;
 mod settings;
 
 use crate::page::Page;
+use crate::records::refused;
+use crate::records::shown;
 use crate::settings::setting_of;
 use header::header::Header;
 use layout::lines::samples_before;
@@ -46,7 +49,7 @@ fn show(samples: &mut [u16], cells: &mut [i64], h: Header, tops: [usize; 40]) ->
     planes::values(cells, s, p.cpih);
     planes::samples(cells, samples, s, p.bw, depth);
     let d = distances::distances(s, p.fq, p.cpih, p.bw, depth, tops);
-    Page::shown(h, d)
+    shown(h, d)
 }
 
 // The same, and nothing where the slices are refused.
@@ -56,7 +59,7 @@ fn show_by(v: Verdict, samples: &mut [u16], cells: &mut [i64], h: Header, tops: 
 {
     match v {
         Verdict::Fine => show(samples, cells, h, tops),
-        Verdict::Refused(_) => Page::refused(v),
+        Verdict::Refused(_) => refused(v),
     }
 }
 
@@ -103,7 +106,7 @@ fn decode_by(
             let cells = 2 * n;
             decode(stream, &mut samples[..n], &mut work[..cells], h)
         }
-        Verdict::Refused(_) => Page::refused(v),
+        Verdict::Refused(_) => refused(v),
     }
 }
 
@@ -119,7 +122,7 @@ fn read_by(v: Verdict, stream: &[u8], samples: &mut [u16], work: &mut [i64], h: 
             let w = room_row(h, n, samples.len(), work.len());
             decode_by(w, stream, samples, work, h, n)
         }
-        Verdict::Refused(_) => Page::refused(v),
+        Verdict::Refused(_) => refused(v),
     }
 }
 

@@ -6,10 +6,11 @@ use mathlib.Core.Path.{_≡_, refl, _∙_}
 use native.Mathlib.Omega.{arith}
 use borrow.Author.Tests.{le-ltb}
 use Rattle.rows.specs.Rows.{broken, first, then, each}
+use Rattle.rows.specs.Tables.{Holds}
 use Rattle.rows.specs.declared.Check.{Check}
 use Rattle.rows.specs.declared.Verdict.{Verdict}
 use Rattle.rows.specs.declared.Verdict.the-variants.{Fine, Refused}
-use Rattle.rows.proofs.Tables.{Holds, held}
+use Rattle.rows.proofs.Tables.{held}
 
 -- a verdict whose place, where it has one, is at most n
 abbrev pub Inside : ℕ → Verdict → Type 0

@@ -10,6 +10,7 @@ use native.Mathlib.Omega.{arith}
 use borrow.Author.Tests.{ltb-false, le-ltb}
 use lib.Dec.{ltb}
 use Rattle.rows.specs.Rows.{number, broken, first, then, each, answer}
+use Rattle.rows.specs.Tables.{Holds, Held, Unbroken, FirstBroken}
 use Rattle.rows.specs.declared.Check.{Check}
 use Rattle.rows.specs.declared.Row.{Row}
 use Rattle.rows.specs.declared.Row.the-variants.{Cut, Marker, Value, Lacking, Lent, Length, Count, Mode}
@@ -87,16 +88,6 @@ each-fine (suc n) f e k h = pick (decLt k n) (each-fine n f (append-fine (each n
         let q : k ≡ n = omega arith in
         rw q (append-fine (each n f) (f n) e .1)
 
--- the value found is from the least to the most
-pub record Holds (c : Check) : Type 0 where
-  pub least : c .4 ≤ c .3
-  pub most : c .3 ≤ c .5
-
--- each check of a table holds
-abbrev pub Held : List Check → Type 0
-Held [] = Unit {0}
-Held (c ∷ cs) = Holds c × Held cs
-
 within : (c : Check) (a b : Bool) → a ≡ ltb (c .3) (c .4) → b ≡ ltb (c .5) (c .3) → (v : Verdict) → cond (a || b) (Refused c) v ≡ Fine → Holds c × (v ≡ Fine)
 within c true b p q v e = refused-fine e
 within c false true p q v e = refused-fine e
@@ -109,11 +100,7 @@ held (c ∷ cs) e =
     let both = within c _ _ refl refl (first cs) e in
     (both .0, held cs (both .1))
 
--- no check of a table is broken
-abbrev pub Unbroken : List Check → Type 0
-Unbroken t = (c : Check) → List·Memᴰ c t → broken c ≡ false
-
--- so it is exactly where nothing is refused
+-- no check of a table is broken, exactly where nothing is refused
 pub fine-iff : (t : List Check) → (first t ≡ Fine) ↔ Unbroken t
 fine-iff [] = (λ e c m. absurd (List·Memᴰ·not-nil m), λ u. refl)
 fine-iff (d ∷ ds) =
@@ -137,14 +124,6 @@ held-iff t = (λ h. fine-iff t .0 (held-fine t h), λ u. held t (fine-iff t .1 u
 
 -- ---- something is broken
 
--- what a table's refusal says: the check stands there, it is broken, and each before it holds
-pub record FirstBroken (t : List Check) (c : Check) : Type 0 where
-  pub before : List Check
-  pub after : List Check
-  pub stands : t ≡ before ++ (c ∷ after)
-  pub earlier : Held before
-  pub breaks : broken c ≡ true
-
 pub first-broken : (t : List Check) (c : Check) → first t ≡ Refused c → FirstBroken t c
 first-broken [] c e = refused-fine (sym e)
 first-broken (d ∷ ds) c e = pick (broken d) refl (first-broken ds c)
@@ -165,3 +144,44 @@ first-breaks t c = (first-broken t c, back)
     back f =
         let here : first (c ∷ f .after) ≡ Refused c = rw (f .breaks) in
         ap first (f .stands) ∙ first-append (f .before) (c ∷ f .after) ∙ (λ i. then (held-fine (f .before) (f .earlier) i) (here i))
+
+-- ---- tables of an index that decide as one of them does
+
+then-same : (v w : Verdict) → (w ≡ Fine) ⊎ (w ≡ v) → then v w ≡ v
+then-same Fine w (inl e) = e
+then-same Fine w (inr e) = e
+then-same (Refused c) w o = refl
+
+then-either : (u v w : Verdict) → (u ≡ Fine) ⊎ (u ≡ v) → (w ≡ Fine) ⊎ (w ≡ v) → (then u w ≡ Fine) ⊎ (then u w ≡ v)
+then-either u v w (inl e) o = rw e o
+then-either u v w (inr e) o = inr (rw e (then-same v w o))
+
+each-either : (n : ℕ) (f : ℕ → List Check) (v : Verdict) → ((k : ℕ) → k < n → (first (f k) ≡ Fine) ⊎ (first (f k) ≡ v))
+    → (first (each n f) ≡ Fine) ⊎ (first (each n f) ≡ v)
+unfolding each
+each-either zero f v h = inl refl
+each-either (suc n) f v h =
+    rw (first-append (each n f) (f n)) (then-either (first (each n f)) v (first (f n)) (each-either n f v (λ k l. h k (omega arith))) (h n (omega arith)))
+
+-- where each refuses nothing, all do
+pub each-all : (n : ℕ) (f : ℕ → List Check) → ((k : ℕ) → k < n → first (f k) ≡ Fine) → first (each n f) ≡ Fine
+unfolding each
+each-all zero f h = refl
+each-all (suc n) f h = fine-passes (each n f) (f n) (each-all n f (λ k l. h k (omega arith))) ∙ h n (omega arith)
+
+-- where each refuses nothing or answers as the m-th does, all answer as the m-th does
+pub each-same : (n : ℕ) (f : ℕ → List Check) (m : ℕ) → m < n → ((k : ℕ) → k < n → (first (f k) ≡ Fine) ⊎ (first (f k) ≡ first (f m))) → first (each n f) ≡ first (f m)
+unfolding each
+each-same zero f m l h = absurd (omega arith)
+each-same (suc n) f m l h = pick (decLt m n) (λ b. each-same n f m b (λ k c. h k (omega arith)))
+  where
+    pick : Dec (m < n) → (m < n → first (each n f) ≡ first (f m)) → first (each n f ++ f n) ≡ first (f m)
+    pick (yes b) before =
+        first-append (each n f) (f n) ∙ (λ i. then (before b i) (first (f n))) ∙ then-same (first (f m)) (first (f n)) (h n (omega arith))
+    pick (no b) before =
+        let q : n ≡ m = omega arith in
+        first-append (each n f) (f n) ∙ last (first (each n f)) (first (f m)) (first (f n)) (each-either n f (first (f m)) (λ k c. h k (omega arith))) (ap (λ (k : ℕ). first (f k)) q)
+      where
+        last : (u v w : Verdict) → (u ≡ Fine) ⊎ (u ≡ v) → w ≡ v → then u w ≡ v
+        last u v w (inl e) g = (λ i. then (e i) w) ∙ g
+        last u v w (inr e) g = (λ i. then (e i) w) ∙ then-same v w (inr g)

@@ -1,3 +1,5 @@
 pub mod NumberLaws
 pub mod BandLaws
+pub mod Codes
+pub mod Tails
 pub mod Sites

@@ -13,10 +13,9 @@ use Rattle.picture.specs.declared.picture.Picture.{Picture}
 use Rattle.picture.specs.declared.segment.Segment.{Segment}
 use Rattle.picture.proofs.Sites.{length-sited, sized-sited}
 use Rattle.layout.specs.Bands.{samples-of, levels-of}
-use Rattle.segments.specs.Components.{componentAt, widest, depthChecks, levelChecks, filterChecks, sxChecks, acrossChecks, syChecks, downChecks, componentChecks, componentRow, componentsChecks}
-use Rattle.segments.specs.Segments.{kindOf, headChecks, onceChecks, seenChecks, unbuiltChecks, typeChecks, sdChecks, onlyChecks, sliceChecks, checksOf, segmentChecks}
+use Rattle.segments.specs.Components.{samplingPlace, sxAt, syAt, depthChecks, levelChecks, filterChecks, sxChecks, acrossChecks, syChecks, downChecks, componentChecks, componentsChecks}
+use Rattle.segments.specs.Segments.{kindOf, headChecks, unknownChecks, onceChecks, seenChecks, unbuiltChecks, typeChecks, sdChecks, onlyChecks, sliceChecks, checksOf, segmentChecks}
 use Rattle.segments.specs.Weights.{bandsIn, gainRow, gainChecks}
-use Rattle.segments.specs.declared.components.Component.{Component}
 use Rattle.segments.specs.declared.kinds.Kind.{Kind}
 use Rattle.segments.specs.declared.kinds.Kind.the-variants.{Components, Weights, Extension, Undecomposed, Registration, Unbuilt, Slice, Predicted, Unknown}
 use Rattle.segments.specs.declared.seen.Seen.{Seen}
@@ -27,16 +26,16 @@ filter-sited : (n : ℕ) (f : Field) (place points levels : ℕ) → place ≤ n
 filter-sited n f place points levels l =
     sited-each n levels (levelChecks f place points) (λ d _. standing n (levelChecks f place points d) (omega arith))
 
-component-sited : (n : ℕ) (h : Picture) (p c m : ℕ) (k : Component) → p + 5 + 2 * c ≤ n → Sited n (componentChecks h p c m k)
-component-sited n h p c m k l =
-    let place = p + 5 + 2 * c in
-    let wide = samples-of (h .wf) (k .sx) in
-    let high = samples-of (h .hf) (k .sy) in
-    let levels = levels-of (h .nly) (k .sy) in
-    let down = standing-then n (syChecks h place k) (filterChecks Sy place high levels) (omega arith) (filter-sited n Sy place high levels l) in
-    standing-then n (depthChecks h (p + 4 + 2 * c) k) (acrossChecks h place c m k ++ downChecks h place k) (omega arith)
-    (sited-append n (acrossChecks h place c m k) (downChecks h place k)
-    (standing-then n (sxChecks h place c m k) (filterChecks Sx place wide (h .nlx)) (omega arith) (filter-sited n Sx place wide (h .nlx) l))
+component-sited : (n : ℕ) (s : List ℕ) (h : Picture) (p c : ℕ) → p + 5 + 2 * c ≤ n → Sited n (componentChecks s h p c)
+component-sited n s h p c l =
+    let place = samplingPlace p c in
+    let wide = samples-of (h .wf) (sxAt s p c) in
+    let high = samples-of (h .hf) (syAt s p c) in
+    let levels = levels-of (h .nly) (syAt s p c) in
+    let down = standing-then n (syChecks s h p c) (filterChecks Sy place high levels) (omega arith) (filter-sited n Sy place high levels l) in
+    standing-then n (depthChecks s h p c) (acrossChecks s h p c ++ downChecks s h p c) (omega arith)
+    (sited-append n (acrossChecks s h p c) (downChecks s h p c)
+    (standing-then n (sxChecks s h p c) (filterChecks Sx place wide (h .nlx)) (omega arith) (filter-sited n Sx place wide (h .nlx) l))
     (λ _. down))
 
 -- ---- a segment, where its marker is in the stream
@@ -51,7 +50,7 @@ module _ (s : List ℕ) (h : Picture) (x : Seen) (p : ℕ) (l : p + 2 ≤ length
       let table = componentsChecks s h p in
       standing-then (length s) (onceChecks Cdt p (x .cdt)) (lengthChecks g Lcdt n n ++ table) (omega arith)
       (sized-sited s p Lcdt n n table l (λ size.
-      sited-each (length s) (h .nc) (componentRow s h p) (λ c b. component-sited (length s) h p c (widest s p (h .nc)) (componentAt s p c) (omega arith))))
+      sited-each (length s) (h .nc) (componentChecks s h p) (λ c b. component-sited (length s) s h p c (omega arith))))
   checks-sited Weights =
       let n = bandsIn s h (x .cdt) in
       let gains = gainChecks s p n in
@@ -72,7 +71,7 @@ module _ (s : List ℕ) (h : Picture) (x : Seen) (p : ℕ) (l : p + 2 ≤ length
   checks-sited (Unbuilt f) = standing (length s) (unbuiltChecks f p) (omega arith)
   checks-sited Slice = standing (length s) (sliceChecks x g) (omega arith)
   checks-sited Predicted = standing (length s) (sliceChecks x g ++ unbuiltChecks Sli p) (omega arith)
-  checks-sited Unknown = tt
+  checks-sited Unknown = standing (length s) (unknownChecks g) (omega arith)
 
 -- any segment, where the stream comes to its marker
 pub segment-sited : (s : List ℕ) (h : Picture) (x : Seen) (p : ℕ) → p ≤ length s → Sited (length s) (segmentChecks s h x (segmentAt s p))

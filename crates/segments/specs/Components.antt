@@ -16,15 +16,24 @@ use Rattle.picture.specs.declared.picture.Picture.{Picture}
 use Rattle.layout.specs.Bands.{samples-of, levels-of}
 use Rattle.segments.specs.declared.components.Component.{Component}
 
--- Table A.15
+-- Table A.15: component c has two bytes, B[c] and then sx[c] and sy[c], which share one
+abbrev pub depthPlace : ℕ → ℕ → ℕ
+depthPlace p c = p + 4 + 2 * c
+
+abbrev pub samplingPlace : ℕ → ℕ → ℕ
+samplingPlace p c = p + 5 + 2 * c
+
+-- B[c], u(8)
 abbrev pub depthAt : List ℕ → ℕ → ℕ → ℕ
-depthAt s p c = fieldAt s (p + 4 + 2 * c) 8
+depthAt s p c = fieldAt s (depthPlace p c) 8
 
+-- sx[c], u(4)
 abbrev pub sxAt : List ℕ → ℕ → ℕ → ℕ
-sxAt s p c = fieldAt s (p + 5 + 2 * c) 4
+sxAt s p c = fieldAt s (samplingPlace p c) 4
 
+-- sy[c], u(4)
 abbrev pub syAt : List ℕ → ℕ → ℕ → ℕ
-syAt s p c = bitsAt s (p + 5 + 2 * c) 4 4
+syAt s p c = bitsAt s (samplingPlace p c) 4 4
 
 abbrev pub componentAt : List ℕ → ℕ → ℕ → Component
 componentAt s p c = record { depth = depthAt s p c; sx = sxAt s p c; sy = syAt s p c }
@@ -40,60 +49,57 @@ unfoldable pub widest : List ℕ → ℕ → ℕ → ℕ
 widest s p zero = 0
 widest s p (suc n) = max (widest s p n) (sxAt s p n)
 
--- Table A.15: B is 8 to 16. Table A.8: where Fq is 0 it is Bw
-abbrev pub depthChecks : Picture → ℕ → Component → List Check
-depthChecks h place k =
-    check Value place B (k .depth) 8 16
-    ∷ check Value place B (k .depth) (cond (eqb (h .fq) 0) (h .bw) 8) (cond (eqb (h .fq) 0) (h .bw) 16)
-    ∷ []
-
--- 'any line or column that a filter joins: at least 2 samples'. Of n samples the filter behind d others joins ceil(n / 2^d)
+-- document 01: 'any line or column that a filter joins: at least 2 samples', else 4. Of n samples the filter behind d others joins ceil(n / 2^d)
 abbrev pub levelChecks : Field → ℕ → ℕ → ℕ → List Check
 levelChecks f place n d = check Lacking place f (ceilDiv n (2 ^ d)) 2 ample ∷ []
 
 abbrev pub filterChecks : Field → ℕ → ℕ → ℕ → List Check
 filterChecks f place n levels = each levels (levelChecks f place n)
 
--- Table A.7, Cw: 'all bands of the rightmost precincts are non-empty'. m is max sx[i], so the rule is checked at the last component
-abbrev pub columnUnit : Picture → ℕ → ℕ
-columnUnit h m = m * 2 ^ h .nlx
+-- what is checked at component c of the table at p, in the order of Table A.15. sx and sy are two fields: all of sx comes first, its 3s and then its 4,
+-- and then all of sy
+module _ (s : List ℕ) (h : Picture) (p c : ℕ) where
+  -- Table A.15, B[c]: 8 to 16. Table A.8: where Fq is 0, every B[i] is Bw
+  abbrev pub depthChecks : List Check
+  depthChecks =
+      check Value (depthPlace p c) B (depthAt s p c) 8 16
+      ∷ check Value (depthPlace p c) B (depthAt s p c) (cond (eqb (h .fq) 0) (h .bw) 8) (cond (eqb (h .fq) 0) (h .bw) 16)
+      ∷ []
 
-abbrev pub lastColumn : Picture → ℕ → ℕ
-lastColumn h m = h .wf % (8 * h .cw * columnUnit h m)
+  -- Table A.7, Cw: 'either Cw = 0 or Wf umod (8 × Cw × max sx[i] × 2^NLx) ≥ max sx[i] × 2^NLx'. The rule joins Cw with every sx, and so is checked at the last
+  abbrev pub columnCheck : Check
+  columnCheck =
+      check Value (samplingPlace p c) Cw (h .wf % (8 * h .cw * widest s p (h .nc) * 2 ^ h .nlx))
+      (cond (eqb (c + 1) (h .nc) && ltb 0 (h .cw)) (widest s p (h .nc) * 2 ^ h .nlx) 0) ample
 
-abbrev pub leastColumn : Picture → ℕ → ℕ → ℕ
-leastColumn h c m = cond (eqb (c + 1) (h .nc) && ltb 0 (h .cw)) (columnUnit h m) 0
+  -- Table A.15, sx[c]: '1 or 2 for components 1 and 2, 1 for all other components'. F.2: with the reversible colour transform it is 1
+  abbrev pub sxChecks : List Check
+  sxChecks =
+      check Value (samplingPlace p c) Sx (sxAt s p c) 1 (cond (eqb c 1 || eqb c 2) 2 1)
+      ∷ check Value (samplingPlace p c) Sx (sxAt s p c) 1 (cond (eqb (h .cpih) 1) 1 2)
+      ∷ columnCheck
+      ∷ []
 
--- Table A.15: sx is 1 or 2 for components 1 and 2, 1 for the others. The reversible colour transform wants 1
-abbrev pub sxChecks : Picture → ℕ → ℕ → ℕ → Component → List Check
-sxChecks h place c m k =
-    check Value place Sx (k .sx) 1 (cond (eqb c 1 || eqb c 2) 2 1)
-    ∷ check Value place Sx (k .sx) 1 (cond (eqb (h .cpih) 1) 1 2)
-    ∷ check Value place Cw (lastColumn h m) (leastColumn h c m) ample
-    ∷ []
+  -- then two samples to each filter across
+  abbrev pub acrossChecks : List Check
+  acrossChecks = sxChecks ++ filterChecks Sx (samplingPlace p c) (samples-of (h .wf) (sxAt s p c)) (h .nlx)
 
-abbrev pub acrossChecks : Picture → ℕ → ℕ → ℕ → Component → List Check
-acrossChecks h place c m k = sxChecks h place c m k ++ filterChecks Sx place (samples-of (h .wf) (k .sx)) (h .nlx)
+  -- Table A.15, sy[c]: 1 to sx[c]. F.2: with the reversible colour transform it is 1. Document 01: fewer levels down than none are answered 3, and
+  -- NLy − log2 sy is none or more where sy is at most 2^NLy
+  abbrev pub syChecks : List Check
+  syChecks =
+      check Value (samplingPlace p c) Sy (syAt s p c) 1 (sxAt s p c)
+      ∷ check Value (samplingPlace p c) Sy (syAt s p c) 1 (cond (eqb (h .cpih) 1) 1 2)
+      ∷ check Value (samplingPlace p c) Sy (syAt s p c) 1 (2 ^ h .nly)
+      ∷ []
 
--- Table A.15: sy is from 1 to sx. B.2: no component has fewer than no levels down
-abbrev pub syChecks : Picture → ℕ → Component → List Check
-syChecks h place k =
-    check Value place Sy (k .sy) 1 (k .sx)
-    ∷ check Value place Sy (k .sy) 1 (cond (eqb (h .cpih) 1) 1 2)
-    ∷ check Value place Sy (k .sy) 1 (2 ^ h .nly)
-    ∷ []
+  -- then two samples to each filter down, of which the component has its own number (B.2)
+  abbrev pub downChecks : List Check
+  downChecks = syChecks ++ filterChecks Sy (samplingPlace p c) (samples-of (h .hf) (syAt s p c)) (levels-of (h .nly) (syAt s p c))
 
-abbrev pub downChecks : Picture → ℕ → Component → List Check
-downChecks h place k = syChecks h place k ++ filterChecks Sy place (samples-of (h .hf) (k .sy)) (levels-of (h .nly) (k .sy))
+  abbrev pub componentChecks : List Check
+  componentChecks = depthChecks ++ (acrossChecks ++ downChecks)
 
--- one component: sx and sy share a byte and so a place
-abbrev pub componentChecks : Picture → ℕ → ℕ → ℕ → Component → List Check
-componentChecks h p c m k =
-    depthChecks h (p + 4 + 2 * c) k ++ (acrossChecks h (p + 5 + 2 * c) c m k ++ downChecks h (p + 5 + 2 * c) k)
-
--- component c of the table at p, and all of them in their order
-abbrev pub componentRow : List ℕ → Picture → ℕ → ℕ → List Check
-componentRow s h p c = componentChecks h p c (widest s p (h .nc)) (componentAt s p c)
-
+-- all components, in their order
 abbrev pub componentsChecks : List ℕ → Picture → ℕ → List Check
-componentsChecks s h p = each (h .nc) (componentRow s h p)
+componentsChecks s h p = each (h .nc) (componentChecks s h p)

@@ -20,7 +20,7 @@ use Rattle.segments.specs.declared.kinds.Kind.{Kind}
 use Rattle.segments.specs.declared.kinds.Kind.the-variants.{Components, Weights, Extension, Undecomposed, Registration, Unbuilt, Slice, Predicted, Unknown}
 use Rattle.segments.specs.declared.seen.Seen.{Seen}
 
--- Table A.2, as far as it goes here
+-- Table A.2, as far as it goes here. SOC, CAP and PIH are repeated here, EOC is misplaced, and any other code is unknown
 unfoldable pub kindOf : ℕ → Kind
 kindOf m =
     cond (eqb m CDT) Components
@@ -36,12 +36,15 @@ kindOf m =
     (cond (eqb m SLI) Predicted
     Unknown))))))))))
 
--- every segment has a marker, from CDT to WGR, or SLH or SLI. SOC, CAP and PIH are repeated here, EOC is misplaced, and any other code is unknown
+-- every segment has a marker
 abbrev pub headChecks : Segment → List Check
-headChecks g =
-    check Cut (g .at) Next (g .left) 2 ample
-    ∷ check Marker (g .at) Next (g .marker) (cond (ltb WGR (g .marker)) SLH CDT) (cond (ltb WGR (g .marker)) SLI WGR)
-    ∷ []
+headChecks g = check Cut (g .at) Next (g .left) 2 ample ∷ []
+
+-- one that is `Unknown` is refused by 2. The range beside it has the codes of Table A.2 on that side of WGR, SLH and SLI or CDT to WGR; `unknown-refused`
+-- shows that no unknown code is among them
+abbrev pub unknownChecks : Segment → List Check
+unknownChecks g =
+    check Marker (g .at) Next (g .marker) (cond (ltb WGR (g .marker)) SLH CDT) (cond (ltb WGR (g .marker)) SLI WGR) ∷ []
 
 -- the places of the segments seen so far: 0 for none
 abbrev pub noneSeen : Seen
@@ -51,7 +54,7 @@ noneSeen = record { cdt = 0; wgt = 0; caption = 0; crg = 0; cwd = 0 }
 abbrev pub counted : ℕ → ℕ
 counted place = cond (eqb place 0) 0 1
 
--- 'exactly one', 'zero or one': not twice
+-- A.4.5 and A.4.12: 'exactly one', A.4.9: 'Zero or one': not twice
 abbrev pub onceChecks : Field → ℕ → ℕ → List Check
 onceChecks f p seen = check Marker p f (1 + counted seen) 1 1 ∷ []
 
@@ -59,49 +62,52 @@ onceChecks f p seen = check Marker p f (1 + counted seen) 1 1 ∷ []
 abbrev pub seenChecks : Row → Field → ℕ → ℕ → List Check
 seenChecks row f p seen = check row p f (counted seen) 1 1 ∷ []
 
--- a segment that is not built
+-- document 01: 'Segments 0xff1b and 0xff21, and those of temporal control, non-linear output and Star-Tetrix parameters, are answered 4 at their markers'
 abbrev pub unbuiltChecks : Field → ℕ → List Check
 unbuiltChecks f p = check Lacking p f 1 0 0 ∷ []
 
--- A.4.5
+-- Table A.15: Lcdt is 2 × Nc + 2
 abbrev pub tableChecks : List ℕ → Picture → Seen → Segment → List Check
 tableChecks s h x g =
     onceChecks Cdt (g .at) (x .cdt)
     ++ (lengthChecks g Lcdt (2 * h .nc + 2) (2 * h .nc + 2) ++ componentsChecks s h (g .at))
 
--- A.4.12: 'before the component table it is answered 4 at its marker, unless Annex A makes that 2'
+-- A.4.12. Document 01: 'The weights table (0xff14) has 2 + 2n bytes for n existing bands', and 'before the component table it is answered 4 at its marker,
+-- unless Annex A makes that 2'
 abbrev pub weightChecks : List ℕ → Picture → Seen → Segment → List Check
 weightChecks s h x g =
     onceChecks Wgt (g .at) (x .wgt)
     ++ (seenChecks Lacking Cdt (g .at) (x .cdt)
     ++ (lengthChecks g Lwgt (2 + 2 * bandsIn s h (x .cdt)) (2 + 2 * bandsIn s h (x .cdt)) ++ gainChecks s (g .at) (bandsIn s h (x .cdt))))
 
--- A.4.11: Tcom
+-- Table A.23: Tcom
 abbrev pub typeAt : List ℕ → ℕ → ℕ
 typeAt s p = fieldAt s (p + 4) 16
 
--- 'Types 0x0000, 0x0001 and 0x8000 to 0xffff are accepted, their data not judged; others are answered 3.'
+-- Table A.24. Document 01: 'Types 0x0000, 0x0001 and 0x8000 to 0xffff are accepted, their data not judged; others are answered 3.' Below 0x8000 the most
+-- is 0x0001, from there on 0xffff
 abbrev pub typeChecks : List ℕ → ℕ → List Check
 typeChecks s p = check Value (p + 4) Tcom (typeAt s p) 0 (cond (ltb (typeAt s p) 0x8000) 1 0xffff) ∷ []
 
+-- Table A.23: Lcom is 'Variable, at least 4'. A.4.11: 'Zero or more extension marker segments may be present'
 abbrev pub extensionChecks : List ℕ → Segment → List Check
 extensionChecks s g = lengthChecks g Lcom 4 0xffff ++ typeChecks s (g .at)
 
--- A.4.9: its values are not judged
+-- Table A.21: Lcrg is 2 + 4 × Nc. Document 01: registration 'is checked by Annex A and changes no sample'; any value of its fields is allowed
 abbrev pub registrationChecks : Picture → Seen → Segment → List Check
 registrationChecks h x g = onceChecks Crg (g .at) (x .crg) ++ lengthChecks g Lcrg (2 + 4 * h .nc) (2 + 4 * h .nc)
 
--- A.4.7: how many components at the end of the first n are sampled at every grid point
+-- Table A.18: 'all components that are excluded from the wavelet transformation have sx[c]=1 and sy[c]=1'. Those are the last Sd. This is how many of the
+-- first n components, counted from the end, have that; `full-tail` shows that Sd is at most this exactly where the last Sd of them have it
 unfoldable pub fullTail : List ℕ → ℕ → ℕ → ℕ
 fullTail s cdt zero = 0
 fullTail s cdt (suc n) = cond (eqb (sxAt s cdt n) 1 && eqb (syAt s cdt n) 1) (fullTail s cdt n + 1) 0
 
--- of all where there is no component table yet
+-- before the component table nothing is known of them
 abbrev pub mostSd : List ℕ → Picture → Seen → ℕ
 mostSd s h x = cond (eqb (x .cdt) 0) (h .nc) (fullTail s (x .cdt) (h .nc))
 
--- A.4.7: Sd is 1 to Nc − 1, and 'shall be selected such that all components that are excluded from the wavelet transformation have sx[c]=1 and sy[c]=1'.
--- It is not built
+-- Table A.18: Sd is 1 to Nc − 1, and its components are sampled at every grid point. Document 01: the segment is answered 4 'at its count, when above 0'
 abbrev pub sdChecks : List ℕ → Picture → Seen → Segment → List Check
 sdChecks s h x g =
     check Value (g .at + 4) Sd (fieldAt s (g .at + 4) 8) 1 (h .nc - 1)
@@ -109,10 +115,11 @@ sdChecks s h x g =
     ∷ check Lacking (g .at + 4) Sd (fieldAt s (g .at + 4) 8) 0 0
     ∷ []
 
--- A.4.7: 'Zero or one .. Shall only be present if Nc > 3.'
+-- A.4.7: 'Zero or one component-dependent wavelet decomposition marker segments', and 'Shall only be present if Nc > 3'
 abbrev pub onlyChecks : Picture → Seen → ℕ → List Check
 onlyChecks h x p = check Marker p Cwd (1 + counted (x .cwd)) 0 (cond (ltb 3 (h .nc)) 1 0) ∷ []
 
+-- Table A.18: Lcwd is 3
 abbrev pub undecomposedChecks : List ℕ → Picture → Seen → Segment → List Check
 undecomposedChecks s h x g = onlyChecks h x (g .at) ++ (lengthChecks g Lcwd 3 3 ++ sdChecks s h x g)
 
@@ -133,7 +140,7 @@ checksOf Registration s h x g = registrationChecks h x g
 checksOf (Unbuilt f) s h x g = unbuiltChecks f (g .at)
 checksOf Slice s h x g = sliceChecks x g
 checksOf Predicted s h x g = predictedChecks x g
-checksOf Unknown s h x g = []
+checksOf Unknown s h x g = unknownChecks g
 
 abbrev pub segmentChecks : List ℕ → Picture → Seen → Segment → List Check
 segmentChecks s h x g = headChecks g ++ checksOf (kindOf (g .marker)) s h x g

@@ -15,7 +15,7 @@ use Rattle.segments.specs.Components.{syAt}
 abbrev pub bandIn : List ℕ → Picture → ℕ → ℕ → Bool
 bandIn s h cdt b = bandExists (h .nc) (h .nlx) (h .nly) (syAt s cdt) b
 
--- 'n existing bands'
+-- document 01: 'n existing bands'
 abbrev pub bandsIn : List ℕ → Picture → ℕ → ℕ
 bandsIn s h cdt = existing (bandIn s h cdt) (bands (h .nc) (h .nlx) (h .nly))
 
@@ -26,7 +26,7 @@ gainAt s p k = fieldAt s (p + 4 + 2 * k) 8
 abbrev pub priorityAt : List ℕ → ℕ → ℕ → ℕ
 priorityAt s p k = fieldAt s (p + 5 + 2 * k) 8
 
--- gains are 0 to 15, priorities 0 to 255
+-- Table A.25: a gain is 0 to 15. A priority is 0 to 255, as every byte is
 abbrev pub gainRow : List ℕ → ℕ → ℕ → List Check
 gainRow s p k = check Value (p + 4 + 2 * k) G (gainAt s p k) 0 15 ∷ []
 

@@ -1,9 +1,10 @@
 // The component table.
 use crate::numbers::ceil;
-use crate::numbers::larger;
-use crate::numbers::less;
-use crate::numbers::power;
 use crate::numbers::remainder;
+use layout::numbers::larger;
+use layout::numbers::less;
+use layout::numbers::low_size;
+use layout::numbers::power;
 use picture::picture::Picture;
 use rows::AMPLE;
 use rows::Check;
@@ -11,11 +12,11 @@ use rows::Field;
 use rows::Row;
 use rows::Verdict;
 ghost use mathlib.Core.Path.{_≡_};
-ghost use Prim.Native.Nat.{_+_, _*_, _%_, _<_, _^_};
+ghost use Prim.Native.Nat.{_+_, _*_, _%_, _≤_, _<_, _^_};
 ghost use Rattle.rows.specs.Rows.{first};
 ghost use Rattle.bits.specs.Fields.{IsField};
 ghost use Rattle.picture.specs.Picture.{Built};
-ghost use Rattle.segments.specs.Components.{widest, columnUnit, depthChecks, levelChecks, filterChecks, sxChecks, syChecks, acrossChecks, downChecks, componentChecks, componentsChecks, IsComponent};
+ghost use Rattle.segments.specs.Components.{widest, depthChecks, levelChecks, filterChecks, sxChecks, syChecks, acrossChecks, downChecks, componentChecks, componentsChecks, IsComponent};
 
 // A component as the table has it.
 pub struct Component {
@@ -25,14 +26,14 @@ pub struct Component {
 }
 
 // The sampling factors of component c of the table at p, which share a byte.
-pub fn sx_at(s: &[u8], p: usize, c: usize) -> usize
+pub(crate) fn sx_at(s: &[u8], p: usize, c: usize) -> usize
     requires { ⌜ (p < 2 ^ 32) × (c < 256) ⌝ }
     ensures { λ r. ⌜ IsField (now (s .entry)) (8 * (p + 5 + 2 * c)) 4 r ⌝ }
 {
     bits::u8_at(s, p + 5 + 2 * c) / 16
 }
 
-pub fn sy_at(s: &[u8], p: usize, c: usize) -> usize
+pub(crate) fn sy_at(s: &[u8], p: usize, c: usize) -> usize
     requires { ⌜ (p < 2 ^ 32) × (c < 256) ⌝ }
     ensures { λ r. ⌜ IsField (now (s .entry)) (8 * (p + 5 + 2 * c) + 4) 4 r ⌝ }
 {
@@ -67,21 +68,24 @@ fn widest(s: &[u8], p: usize, n: usize) -> usize
     m
 }
 
-// Its precision.
-fn depth_row(h: Picture, place: usize, k: Component) -> Verdict
-    ensures { λ r. ⌜ r ≡ first (depthChecks h place k) ⌝ }
+// The precision of component c of the table at p.
+fn depth_row(s: &[u8], h: Picture, p: usize, c: usize) -> Verdict
+    requires { ⌜ (p < 2 ^ 32) × (c < 256) ⌝ }
+    ensures { λ r. ⌜ r ≡ first (depthChecks (now (s .entry)) h p c) ⌝ }
 {
+    let place = p + 4 + 2 * c;
+    let depth = bits::u8_at(s, place);
     let least = rows::choose(h.fq == 0, h.bw, 8);
     let most = rows::choose(h.fq == 0, h.bw, 16);
     rows::two(
-        Check(Row::Value, place, Field::B, k.depth, 8, 16),
-        Check(Row::Value, place, Field::B, k.depth, least, most),
+        Check(Row::Value, place, Field::B, depth, 8, 16),
+        Check(Row::Value, place, Field::B, depth, least, most),
     )
 }
 
 // Two samples to each filter: n samples, halved from level to level.
 fn filter_row(field: Field, place: usize, n: usize, levels: usize) -> Verdict
-    requires { ⌜ (n < 2 ^ 32) × (levels < 32) ⌝ }
+    requires { ⌜ (n < 2 ^ 32) × (levels ≤ 5) ⌝ }
     ensures { λ r. ⌜ r ≡ first (filterChecks field place n levels) ⌝ }
 {
     let mut v = Verdict::Fine;
@@ -95,17 +99,16 @@ fn filter_row(field: Field, place: usize, n: usize, levels: usize) -> Verdict
 
 // The filter behind d others.
 fn level_row(field: Field, place: usize, n: usize, d: usize) -> Verdict
-    requires { ⌜ (n < 2 ^ 32) × (d < 32) ⌝ }
+    requires { ⌜ (n < 2 ^ 32) × (d ≤ 5) ⌝ }
     ensures { λ r. ⌜ r ≡ first (levelChecks field place n d) ⌝ }
 {
-    let joined = ceil(n, power(d));
-    rows::one(Check(Row::Lacking, place, field, joined, 2, AMPLE))
+    rows::one(Check(Row::Lacking, place, field, low_size(n, d), 2, AMPLE))
 }
 
-// Precinct columns are multiples of this many grid points.
+// Precinct columns are multiples of this many grid points, for the greatest sx.
 fn column_unit(h: Picture, m: usize) -> usize
     requires { ⌜ Built h × (m < 16) ⌝ }
-    ensures { λ r. ⌜ (r ≡ columnUnit h m) × (r < 512) ⌝ }
+    ensures { λ r. ⌜ (r ≡ m * 2 ^ h .nlx) × (r < 512) ⌝ }
 {
     m * power(h.nlx)
 }
@@ -118,75 +121,81 @@ fn last_column(h: Picture, unit: usize) -> usize
     remainder(h.wf, 8 * h.cw * unit)
 }
 
-// The rules of sx.
-fn sx_row(h: Picture, place: usize, c: usize, m: usize, k: Component) -> Verdict
-    requires { ⌜ Built h × (c < 256) × (m < 16) ⌝ }
-    ensures { λ r. ⌜ r ≡ first (sxChecks h place c m k) ⌝ }
+// The rules of sx, and at the last component that of Cw: m is the greatest sx.
+fn sx_row(s: &[u8], h: Picture, p: usize, c: usize, m: usize) -> Verdict
+    requires { ⌜ Built h × (p < 2 ^ 32) × (c < 256) × (m ≡ widest (now s) p (h .nc)) × (m < 16) ⌝ }
+    ensures { λ r. ⌜ r ≡ first (sxChecks (now (s .entry)) h p c) ⌝ }
 {
+    let place = p + 5 + 2 * c;
+    let sx = sx_at(s, p, c);
     let most = rows::choose((c == 1) | (c == 2), 2, 1);
     let colour = rows::choose(h.cpih == 1, 1, 2);
     let unit = column_unit(h, m);
     let last = last_column(h, unit);
     let least = rows::choose((c + 1 == h.nc) & (0 < h.cw), unit, 0);
     rows::three(
-        Check(Row::Value, place, Field::Sx, k.sx, 1, most),
-        Check(Row::Value, place, Field::Sx, k.sx, 1, colour),
+        Check(Row::Value, place, Field::Sx, sx, 1, most),
+        Check(Row::Value, place, Field::Sx, sx, 1, colour),
         Check(Row::Value, place, Field::Cw, last, least, AMPLE),
     )
 }
 
 // All that is checked at sx.
-fn across_row(h: Picture, place: usize, c: usize, m: usize, k: Component) -> Verdict
-    requires { ⌜ Built h × (c < 256) × (m < 16) × (k .sx < 16) ⌝ }
-    ensures { λ r. ⌜ r ≡ first (acrossChecks h place c m k) ⌝ }
+fn across_row(s: &[u8], h: Picture, p: usize, c: usize, m: usize) -> Verdict
+    requires { ⌜ Built h × (p < 2 ^ 32) × (c < 256) × (m ≡ widest (now s) p (h .nc)) × (m < 16) ⌝ }
+    ensures { λ r. ⌜ r ≡ first (acrossChecks (now (s .entry)) h p c) ⌝ }
 {
-    let samples = ceil(h.wf, k.sx);
+    let samples = ceil(h.wf, sx_at(s, p, c));
     rows::then(
-        sx_row(h, place, c, m, k),
-        filter_row(Field::Sx, place, samples, h.nlx),
+        sx_row(s, h, p, c, m),
+        filter_row(Field::Sx, p + 5 + 2 * c, samples, h.nlx),
     )
 }
 
 // The rules of sy.
-fn sy_row(h: Picture, place: usize, k: Component) -> Verdict
-    requires { ⌜ Built h ⌝ }
-    ensures { λ r. ⌜ r ≡ first (syChecks h place k) ⌝ }
+fn sy_row(s: &[u8], h: Picture, p: usize, c: usize) -> Verdict
+    requires { ⌜ Built h × (p < 2 ^ 32) × (c < 256) ⌝ }
+    ensures { λ r. ⌜ r ≡ first (syChecks (now (s .entry)) h p c) ⌝ }
 {
+    let place = p + 5 + 2 * c;
+    let sx = sx_at(s, p, c);
+    let sy = sy_at(s, p, c);
     let colour = rows::choose(h.cpih == 1, 1, 2);
     let levels = power(h.nly);
     rows::three(
-        Check(Row::Value, place, Field::Sy, k.sy, 1, k.sx),
-        Check(Row::Value, place, Field::Sy, k.sy, 1, colour),
-        Check(Row::Value, place, Field::Sy, k.sy, 1, levels),
+        Check(Row::Value, place, Field::Sy, sy, 1, sx),
+        Check(Row::Value, place, Field::Sy, sy, 1, colour),
+        Check(Row::Value, place, Field::Sy, sy, 1, levels),
     )
 }
 
 // All that is checked at sy.
-fn down_row(h: Picture, place: usize, k: Component) -> Verdict
-    requires { ⌜ Built h × (k .sy < 16) ⌝ }
-    ensures { λ r. ⌜ r ≡ first (downChecks h place k) ⌝ }
+fn down_row(s: &[u8], h: Picture, p: usize, c: usize) -> Verdict
+    requires { ⌜ Built h × (p < 2 ^ 32) × (c < 256) ⌝ }
+    ensures { λ r. ⌜ r ≡ first (downChecks (now (s .entry)) h p c) ⌝ }
 {
-    let samples = ceil(h.hf, k.sy);
-    let levels = less(h.nly, k.sy / 2);
+    let sy = sy_at(s, p, c);
+    let samples = ceil(h.hf, sy);
+    let levels = less(h.nly, sy / 2);
     rows::then(
-        sy_row(h, place, k),
-        filter_row(Field::Sy, place, samples, levels),
+        sy_row(s, h, p, c),
+        filter_row(Field::Sy, p + 5 + 2 * c, samples, levels),
     )
 }
 
 // One component.
-fn component_row(h: Picture, p: usize, c: usize, m: usize, k: Component) -> Verdict
-    requires { ⌜ Built h × (p < 2 ^ 32) × (c < 256) × (m < 16) × (k .sx < 16) × (k .sy < 16) ⌝ }
-    ensures { λ r. ⌜ r ≡ first (componentChecks h p c m k) ⌝ }
+fn component_row(s: &[u8], h: Picture, p: usize, c: usize, m: usize) -> Verdict
+    requires { ⌜ Built h × (p < 2 ^ 32) × (c < 256) × (m ≡ widest (now s) p (h .nc)) × (m < 16) ⌝ }
+    ensures { λ r. ⌜ r ≡ first (componentChecks (now (s .entry)) h p c) ⌝ }
 {
-    let depth = depth_row(h, p + 4 + 2 * c, k);
-    let across = across_row(h, p + 5 + 2 * c, c, m, k);
-    let down = down_row(h, p + 5 + 2 * c, k);
+    let depth = depth_row(s, h, p, c);
+    let across = across_row(s, h, p, c, m);
+    let down = down_row(s, h, p, c);
     rows::then(depth, rows::then(across, down))
 }
 
 // All components of the table at p.
-pub fn components_row(s: &[u8], h: Picture, p: usize) -> Verdict
+pub(crate) fn components_row(s: &[u8], h: Picture, p: usize) -> Verdict
     requires { ⌜ Built h × (p < 2 ^ 32) ⌝ }
     ensures { λ r. ⌜ r ≡ first (componentsChecks (now (s .entry)) h p) ⌝ }
 {
@@ -195,8 +204,7 @@ pub fn components_row(s: &[u8], h: Picture, p: usize) -> Verdict
     let mut v = Verdict::Fine;
     let mut c = 0;
     while c < nc {
-        let k = Component::read(s, p, c);
-        v = rows::then(v, component_row(h, p, c, m, k));
+        v = rows::then(v, component_row(s, h, p, c, m));
         c += 1;
     }
     v

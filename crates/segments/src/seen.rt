@@ -26,7 +26,7 @@ impl Seen {
 }
 
 // How many segments a place stands for.
-pub fn count(place: usize) -> usize
+pub(crate) fn count(place: usize) -> usize
     ensures { λ r. ⌜ r ≡ counted place ⌝ }
 {
     rows::choose(place == 0, 0, 1)

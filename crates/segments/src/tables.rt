@@ -21,19 +21,23 @@ ghost use mathlib.Core.Path.{_≡_};
 ghost use Prim.Native.Nat.{_<_, _^_};
 ghost use Rattle.rows.specs.Rows.{first};
 ghost use Rattle.picture.specs.Picture.{Built};
-ghost use Rattle.segments.specs.Segments.{headChecks, onceChecks, seenChecks, unbuiltChecks, tableChecks, weightChecks, extensionChecks, registrationChecks, fullTail, undecomposedChecks, sdChecks, sliceChecks, predictedChecks, checksOf, segmentChecks, Placed};
+ghost use Rattle.segments.specs.Segments.{headChecks, unknownChecks, onceChecks, seenChecks, unbuiltChecks, tableChecks, weightChecks, extensionChecks, registrationChecks, fullTail, undecomposedChecks, sdChecks, sliceChecks, predictedChecks, checksOf, segmentChecks, Placed};
 
-// Every segment: its marker is there, and known.
+// Every segment: its marker is there.
 fn head_row(g: Segment) -> Verdict
     ensures { λ r. ⌜ r ≡ first (headChecks g) ⌝ }
+{
+    rows::one(Check(Row::Cut, g.at, Field::Next, g.left, 2, AMPLE))
+}
+
+// One that is unknown is refused.
+fn unknown_row(g: Segment) -> Verdict
+    ensures { λ r. ⌜ r ≡ first (unknownChecks g) ⌝ }
 {
     let slice = Marker::WGR < g.marker;
     let least = rows::choose(slice, Marker::SLH, Marker::CDT);
     let most = rows::choose(slice, Marker::SLI, Marker::WGR);
-    rows::two(
-        Check(Row::Cut, g.at, Field::Next, g.left, 2, AMPLE),
-        Check(Row::Marker, g.at, Field::Next, g.marker, least, most),
-    )
+    rows::one(Check(Row::Marker, g.at, Field::Next, g.marker, least, most))
 }
 
 // Not twice.
@@ -179,7 +183,7 @@ fn kind_row(kind: Kind, s: &[u8], h: Picture, x: Seen, g: Segment) -> Verdict
         Kind::Unbuilt(field) => unbuilt_row(field, g.at),
         Kind::Slice => slice_row(x, g),
         Kind::Predicted => predicted_row(x, g),
-        Kind::Unknown => Verdict::Fine,
+        Kind::Unknown => unknown_row(g),
     }
 }
 

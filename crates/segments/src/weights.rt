@@ -1,7 +1,8 @@
 // The weights table.
-use crate::bands::exists;
-use crate::bands::filter_types;
 use crate::components::sy_at;
+use layout::bands::filter_type;
+use layout::bands::filter_types;
+use layout::bands::first_line_divides;
 use picture::picture::Picture;
 use rows::Check;
 use rows::Field;
@@ -28,11 +29,12 @@ pub fn band_exists(s: &[u8], h: Picture, cdt: usize, b: usize) -> bool
     ensures { λ r. ⌜ r ≡ bandIn (now (s .entry)) h cdt b ⌝ }
 {
     let nc = h.nc;
-    exists(h.nlx, h.nly, sy_at(s, cdt, b % nc), b / nc)
+    let f = filter_type(h.nlx, h.nly, b / nc);
+    first_line_divides(f, h.nly, sy_at(s, cdt, b % nc))
 }
 
 // The number of existing bands.
-pub fn existing_bands(s: &[u8], h: Picture, cdt: usize) -> usize
+pub(crate) fn existing_bands(s: &[u8], h: Picture, cdt: usize) -> usize
     requires { ⌜ Built h × (cdt < 2 ^ 32) ⌝ }
     ensures { λ r. ⌜ (r ≡ bandsIn (now (s .entry)) h cdt) × (r ≤ 40) ⌝ }
 {
@@ -57,7 +59,7 @@ fn gain_row(s: &[u8], p: usize, k: usize) -> Verdict
 }
 
 // The gains of n bands in the table at p.
-pub fn gains_row(s: &[u8], p: usize, n: usize) -> Verdict
+pub(crate) fn gains_row(s: &[u8], p: usize, n: usize) -> Verdict
     requires { ⌜ (p < 2 ^ 32) × (n < 256) ⌝ }
     ensures { λ r. ⌜ r ≡ first (gainChecks (now (s .entry)) p n) ⌝ }
 {

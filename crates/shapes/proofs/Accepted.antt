@@ -1,10 +1,10 @@
 -- The shape of an accepted header is built: what Annex B's functions ask follows from the header's ranges. Assumes nothing.
-use Prim.Native.Nat.{ℕ, zero, suc, _+_, _*_, _-_, _%_, _^_, _≤_, _<_}
+use Prim.Native.Nat.{ℕ, zero, suc, _*_, _%_, _^_, _≤_, _<_}
 use mathlib.Core.Path.{_≡_, refl, sym, ap, _∙_}
 use mathlib.Core.Bool.{Bool, cond}
 use mathlib.Core.List.{List}
 use native.Mathlib.Decide.{decLt}
-use native.Mathlib.Nat.{le-trans, mul-assoc}
+use native.Mathlib.Nat.{le-trans}
 use native.Mathlib.Omega.{arith}
 use borrow.Author.Tests.{le-ltb}
 use lib.ListN.{getD}
@@ -22,12 +22,10 @@ use Rattle.layout.specs.Bands.{sx, sy, Wc, Hc, log2}
 use Rattle.layout.specs.Precincts.{largest}
 use Rattle.layout.specs.Built.{Sampled, Built}
 use Rattle.layout.proofs.Columns.{largest-past}
-use Rattle.header.specs.Walk.{walk}
 use Rattle.header.specs.Header.{four, noComponent, componentOf, headerIn, headerBy, walkOf, readingOf}
 use Rattle.header.specs.Accepted.{largest as listLargest, Ranges}
-use Rattle.header.specs.declared.walk.Walk.{Walk}
 use Rattle.header.proofs.Ranges.{four-at}
-use Rattle.header.proofs.Sound.{accepted-header}
+use Rattle.header.proofs.Accepted.{accepted-header}
 use Rattle.shapes.specs.Shapes.{shapeOf}
 
 -- ---- entries past the components are 0
@@ -86,7 +84,7 @@ module _ (s : List ℕ) (h : Picture) (x : Seen) (slice : ℕ) (r : Ranges (head
       sym (largest-is (λ c. componentOf s h (x .cdt) c .sx)) ∙ largest-past (sx shape) (h .nc) 4 (r .built .nc .1) (λ c l. absent c l .0)
 
   last-column : 0 < h .cw → largest (sx shape) (h .nc) * 2 ^ h .nlx ≤ h .wf % (8 * h .cw * largest (sx shape) (h .nc) * 2 ^ h .nlx)
-  last-column u = rw (← widest, mul-assoc) (r .columns u)
+  last-column u = rw (← widest) (r .columns u)
 
   table-built : Built shape
   table-built = record {

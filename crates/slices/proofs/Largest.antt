@@ -11,7 +11,7 @@ use Rattle.layout.specs.Precincts.{Np, slices}
 use Rattle.packets.specs.declared.Setting.{Setting}
 use Rattle.packets.specs.Precincts.{T}
 use Rattle.slices.specs.Precinct.{holds}
-use Rattle.slices.specs.Slice.{State, Left, precinctTurn, slice}
+use Rattle.slices.specs.Slice.{State, Left, sliceHeaderBytes, precinctTurn, slice}
 use Rattle.slices.specs.Stream.{sliceTurn, stream}
 use Rattle.slices.specs.Reached.{beforePrecinct, sliceHas, beforeSlice, streamHas}
 use Rattle.slices.proofs.Laws.{raised-most}
@@ -27,7 +27,7 @@ module _ (s : List ℕ) (c : Setting) (b m : ℕ) where
       → getD (from .1) b 0 ≤ m → getD (slice s c t from .1 .1) b 0 ≤ m
   slice-most t from fine own h =
       rw (slice-left s c t from fine)
-      (before-carries (precinctTurn s c t) (from .0 + 6, from .1, from .2) Most (Np (c .shape) t) h
+      (before-carries (precinctTurn s c t) (from .0 + sliceHeaderBytes, from .1, from .2) Most (Np (c .shape) t) h
       (λ n l q.
       rw (slice-precinct s c t from fine n l .next)
       (raised-most c (sliceHas s c from t n) (NL (c .shape)) b (beforePrecinct s c from t n .1) (own n l) q)))

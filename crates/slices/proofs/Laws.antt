@@ -18,17 +18,16 @@ use Rattle.rows.specs.declared.Verdict.the-variants.{Fine, Refused}
 use Rattle.layout.specs.Built.{Built}
 use Rattle.layout.specs.Bands.{NL}
 use Rattle.layout.specs.Precincts.{Npx, Npy, Np, slices}
-use Rattle.layout.specs.Cells.{start}
 use Rattle.layout.specs.Slots.{slots, candidates, line-at}
 use Rattle.packets.specs.declared.Setting.{Setting}
 use Rattle.packets.specs.declared.Precinct.{Precinct}
 use Rattle.packets.specs.Precincts.{T}
 use Rattle.packets.specs.Ready.{Settled}
 use Rattle.packets.specs.Packets.{anyLine, packet}
-use Rattle.packets.proofs.Laws.{Apart, packet-length, packet-other, packet-behind, packet-bounded}
+use Rattle.packets.proofs.Laws.{Apart, packet-length, packet-other, packet-bounded}
 use Rattle.packets.proofs.LinePasses.{T-most}
 use Rattle.slices.specs.Precinct.{precinctAt, headerChecks, body, noFlags, Packing, packed, packetTurn, restChecks, packets, packetsBy, precinct, holds, raisedBy, raised}
-use Rattle.slices.specs.Slice.{State, Left, rowOf, columnOf, isTop, sliceChecks, placed, precinctTurn, precincts, precinctsBy, slice}
+use Rattle.slices.specs.Slice.{State, Left, sliceHeaderBytes, rowOf, columnOf, isTop, sliceChecks, placed, precinctTurn, precincts, precinctsBy, slice}
 use Rattle.slices.specs.Stream.{endChecks, sliced, sliceTurn, ended, stream}
 use Rattle.slices.proofs.PrecinctLaws.{clash}
 use Rattle.slices.proofs.SliceLaws.{row-inside, column-inside}
@@ -41,7 +40,7 @@ module _ (s : List ℕ) (c : Setting) (P : List ℤ → Type 0) where
     packed-keeps slot place raws (Fine, cells) h = h
     packed-keeps slot place raws (Refused k, cells) h = h
 
-    packet-turn-keeps : (slot : ℕ) (x : Packing s c row column at) → slot < slots (c .shape) → P (x .2) → Kept (λ (y : Packing s c row column at). P (y .2)) (λ (r : Verdict × List ℤ). P (r .1)) (packetTurn s c row column at slot x)
+    pub packet-turn-keeps : (slot : ℕ) (x : Packing s c row column at) → slot < slots (c .shape) → P (x .2) → Kept (λ (y : Packing s c row column at). P (y .2)) (λ (r : Verdict × List ℤ). P (r .1)) (packetTurn s c row column at slot x)
     unfolding packetTurn
     packet-turn-keeps slot x l h = by (anyLine c (precinctAt s c row column at) slot (candidates (c .shape) slot))
       where
@@ -89,7 +88,7 @@ module _ (s : List ℕ) (c : Setting) (P : List ℤ → Type 0) where
         by : (v : Verdict) → P (precinctsBy s c t v x .1 .2)
         by Fine =
             run-keeps (λ (y : State). P (y .2)) (λ (r : Left). P (r .1 .2)) (precinctTurn s c t) (λ y. (Fine, y)) (Np (c .shape) t) (λ y p. p)
-            (λ n y k p. precinct-turn-keeps n y k p) (Np (c .shape) t) 0 (x .0 + 6, x .1, x .2) (omega arith) h
+            (λ n y k p. precinct-turn-keeps n y k p) (Np (c .shape) t) 0 (x .0 + sliceHeaderBytes, x .1, x .2) (omega arith) h
         by (Refused k) = h
 
   sliced-keeps : (y : Left) → P (y .1 .2) → KeptHere (sliced y)
@@ -102,7 +101,7 @@ module _ (s : List ℕ) (c : Setting) (P : List ℤ → Type 0) where
       run-keeps (λ (y : State). P (y .2)) (λ (r : Left). P (r .1 .2)) (sliceTurn s c) (ended s) (slices (c .shape)) (λ y p. p)
       (λ t y l p. sliced-keeps (slice s c t y) (slice-keeps built t l (kept t) y p)) (slices (c .shape)) 0 x (omega arith) h
 
--- ---- the cells: as many as before, and none changed behind those of the components
+-- ---- the cells: as many as before
 
 pub precinct-length : (s : List ℕ) (c : Setting) (row column at : ℕ) (top : Bool) (cells : List ℤ)
     → length (precinct s c row column at top cells .1) ≡ length cells
@@ -121,16 +120,6 @@ module _ (s : List ℕ) (c : Setting) (settled : Settled c) where
   stream-length x = stream-keeps s c (λ z. length z ≡ length (x .2)) (settled .shape) (length-kept (length (x .2))) x refl
 
   module _ (n : ℕ) where
-    behind-kept : start (c .shape) (c .shape .nc) ≤ n → (z : ℤ) (t : ℕ) → PacketsKeep s c (λ cells. cell cells n ≡ z) t
-    behind-kept h z t row column at slot place raws cells r q k j e =
-        packet-behind s c (precinctAt s c row column at) slot place raws cells (record { settled = settled; row = r; column = k; which = j }) n h ∙ e
-
-    pub slice-behind : start (c .shape) (c .shape .nc) ≤ n → (t : ℕ) → t < slices (c .shape) → (x : State) → cell (slice s c t x .1 .2) n ≡ cell (x .2) n
-    slice-behind h t l x = slice-keeps s c (λ z. cell z n ≡ cell (x .2) n) (settled .shape) t l (behind-kept h (cell (x .2) n) t) x refl
-
-    pub stream-behind : start (c .shape) (c .shape .nc) ≤ n → (x : State) → cell (stream s c x .1 .2) n ≡ cell (x .2) n
-    stream-behind h x = stream-keeps s c (λ z. cell z n ≡ cell (x .2) n) (settled .shape) (behind-kept h (cell (x .2) n)) x refl
-
     -- a slice changes the cells of the lines in its own rows of precincts alone
     pub slice-other : (t : ℕ) → t < slices (c .shape)
         → ((row column slot j : ℕ) → row < Npy (c .shape) → row / c .shape .hsl ≡ t → column < Npx (c .shape) → slot < slots (c .shape) → j < candidates (c .shape) slot
@@ -146,9 +135,6 @@ module _ (s : List ℕ) (c : Setting) (settled : Settled c) where
 module _ (s : List ℕ) (c : Setting) (settled : Settled c) {B : ℕ} (most : 2 ^ (31 + c .fq) ≤ B) where
   bounded-kept : (t : ℕ) → PacketsKeep s c (Bounded B) t
   bounded-kept t row column at slot place raws cells r q k j h = packet-bounded s c (precinctAt s c row column at) slot place raws cells settled most h
-
-  pub slice-bounded : (t : ℕ) → t < slices (c .shape) → (x : State) → Bounded B (x .2) → Bounded B (slice s c t x .1 .2)
-  slice-bounded t l = slice-keeps s c (Bounded B) (settled .shape) t l (bounded-kept t)
 
   pub stream-bounded : (x : State) → Bounded B (x .2) → Bounded B (stream s c x .1 .2)
   stream-bounded = stream-keeps s c (Bounded B) (settled .shape) bounded-kept
@@ -264,7 +250,7 @@ module _ (s : List ℕ) (c : Setting) (P : List ℕ → Type 0) (kept : (p : Pre
       by : (v : Verdict) → P (precinctsBy s c t v x .1 .1)
       by Fine =
           run-keeps (λ (y : State). P (y .1)) (λ (r : Left). P (r .1 .1)) (precinctTurn s c t) (λ y. (Fine, y)) (Np (c .shape) t) (λ y p. p)
-          (λ n y k p. placed-tops t n y (precinct s c (rowOf s c t n) (columnOf s c t n) (y .0) (isTop s c t n) (y .2)) p) (Np (c .shape) t) 0 (x .0 + 6, x .1, x .2) (omega arith) h
+          (λ n y k p. placed-tops t n y (precinct s c (rowOf s c t n) (columnOf s c t n) (y .0) (isTop s c t n) (y .2)) p) (Np (c .shape) t) 0 (x .0 + sliceHeaderBytes, x .1, x .2) (omega arith) h
       by (Refused k) = h
 
   sliced-tops : (y : Left) → P (y .1 .1) → TopsHere (sliced y)
@@ -278,17 +264,11 @@ module _ (s : List ℕ) (c : Setting) (P : List ℕ → Type 0) (kept : (p : Pre
       (λ t y l p. sliced-tops (slice s c t y) (slice-tops t y p)) (slices (c .shape)) 0 x (omega arith) h
 
 module _ (s : List ℕ) (c : Setting) where
-  pub slice-few : Settled c → (t : ℕ) (x : State) → Few (x .1) → Few (slice s c t x .1 .1)
-  slice-few settled = slice-tops s c Few (λ p. raised-few c p settled (NL (c .shape)))
-
   pub stream-few : Settled c → (x : State) → Few (x .1) → Few (stream s c x .1 .1)
   stream-few settled = stream-tops s c Few (λ p. raised-few c p settled (NL (c .shape)))
 
   pub slice-tops-length : (t : ℕ) (x : State) → length (slice s c t x .1 .1) ≡ length (x .1)
   slice-tops-length t x = slice-tops s c (λ z. length z ≡ length (x .1)) (λ p tops e. raised-length c p (NL (c .shape)) tops ∙ e) t x refl
-
-  pub stream-tops-length : (x : State) → length (stream s c x .1 .1) ≡ length (x .1)
-  stream-tops-length x = stream-tops s c (λ z. length z ≡ length (x .1)) (λ p tops e. raised-length c p (NL (c .shape)) tops ∙ e) x refl
 
   -- no largest T falls
   pub slice-tops-up : (t : ℕ) (x : State) (b : ℕ) → b < length (x .1) → getD (x .1) b 0 ≤ getD (slice s c t x .1 .1) b 0

@@ -1,9 +1,11 @@
 -- The states that an accepted reading comes to, slice by slice and precinct by precinct. Assumes nothing.
 use Prim.Native.Nat.{ℕ, _+_, _<_}
 use mathlib.Core.Path.{_≡_, refl, sym, ap, _∙_}
+use mathlib.Core.Bool.{Bool, true, false, cond}
 use mathlib.Core.List.{List}
 use native.Mathlib.Omega.{arith}
 use lib.IntN.{ℤ}
+use lib.ListN.{set}
 use Rattle.loops.specs.Run.{Turn, go, stop}
 use Rattle.loops.proofs.Before.{Turns, run-turns}
 use Rattle.rows.specs.Rows.{first}
@@ -12,22 +14,101 @@ use Rattle.rows.specs.declared.Verdict.{Verdict}
 use Rattle.rows.specs.declared.Verdict.the-variants.{Fine, Refused}
 use Rattle.layout.specs.Bands.{NL}
 use Rattle.layout.specs.Precincts.{Np, slices}
+use Rattle.layout.specs.Slots.{slots, candidates}
 use Rattle.packets.specs.declared.Setting.{Setting}
-use Rattle.slices.specs.Precinct.{precinct, raised}
-use Rattle.slices.specs.Slice.{State, Left, rowOf, columnOf, isTop, sliceChecks, placed, precinctTurn, precincts, precinctsBy, slice}
+use Rattle.packets.specs.Packets.{anyLine, packet, past}
+use Rattle.slices.specs.Precinct.{precinctAt, headerChecks, body, noFlags, Packing, packed, packetTurn, restChecks, packets, packetsBy, precinct, raised}
+use Rattle.slices.specs.Slice.{State, Left, sliceHeaderBytes, rowOf, columnOf, isTop, sliceChecks, placed, precinctTurn, precincts, precinctsBy, slice}
 use Rattle.slices.specs.Stream.{sliced, sliceTurn, ended, stream}
-use Rattle.slices.specs.Reached.{beforePrecinct, sliceHas, sliceReads, beforeSlice}
+use Rattle.slices.specs.Reached.{beforePacket, packetReads, rawFlag, beforePrecinct, sliceHas, sliceReads, beforeSlice}
 use Rattle.slices.proofs.PrecinctLaws.{clash}
 
 -- ---- what stops is refused
 
-goes-not : {z : State} {r : Left} → _≡_ {A = Turn State Left} (go z) (stop r) → ⊥
+goes-not : {S R : Type 0} {z : S} {r : R} → _≡_ {A = Turn S R} (go z) (stop r) → ⊥
 goes-not e = let z : _≡_ {A = ℕ} 0 1 = cc in omega arith
 
-stop-refuses : {k : Check} {z : State} {r : Left} → _≡_ {A = Turn State Left} (stop (Refused k, z)) (stop r) → r .0 ≡ Fine → ⊥
-stop-refuses {k} {z} {r} e f =
-    let q : (Refused k, z) ≡ r = cc in
-    clash (ap (λ (y : Left). y .0) q ∙ f)
+stop-refuses : {S X : Type 0} {k : Check} {z : X} {r : Verdict × X} → _≡_ {A = Turn S (Verdict × X)} (stop (Refused k, z)) (stop r) → r .0 ≡ Fine → ⊥
+stop-refuses {X = X} {k} {z} {r} e f =
+    let q : _≡_ {A = Verdict × X} (Refused k, z) r = cc in
+    clash (ap (λ (y : Verdict × X). y .0) q ∙ f)
+
+-- ---- the packets of an accepted precinct
+
+-- the packet of slot k is accepted, and what it leaves is the state before the next
+pub record PacketFollows (s : List ℕ) (c : Setting) (row column at : ℕ) (cells : List ℤ) (k : ℕ) : Type 0 where
+  pub accepted : packetReads s c row column at cells k .0 ≡ Fine
+  pub next : beforePacket s c row column at cells (k + 1)
+      ≡ (
+        past s c (precinctAt s c row column at) k (beforePacket s c row column at cells k .0),
+        set (beforePacket s c row column at cells k .1) k (rawFlag s c row column at cells k),
+        packetReads s c row column at cells k .1,
+      )
+
+module _ (s : List ℕ) (c : Setting) (row column at : ℕ) (top : Bool) (cells : List ℤ) (fine : precinct s c row column at top cells .0 ≡ Fine) where
+  abbrev EachPacket : Type 0
+  EachPacket =
+      Turns (packetTurn s c row column at) (body s c row column at, noFlags s c row column at, cells)
+      (λ x. (first (restChecks s c row column at (x .0)), x .2)) (slots (c .shape))
+
+  packed-stops : (k place : ℕ) (raws : List ℕ) (y r : Verdict × List ℤ) → packed s c row column at k place raws y ≡ stop r → r .0 ≡ Fine → ⊥
+  packed-stops k place raws (Fine, l) r e f = goes-not e
+  packed-stops k place raws (Refused q, l) r e f = stop-refuses e f
+
+  packet-stops : (k : ℕ) (x : Packing s c row column at) (r : Verdict × List ℤ) → packetTurn s c row column at k x ≡ stop r → r .0 ≡ Fine → ⊥
+  unfolding packetTurn
+  packet-stops k x r = by (anyLine c (precinctAt s c row column at) k (candidates (c .shape) k))
+    where
+      by : (b : Bool) → cond b (packed s c row column at k (x .0) (x .1) (packet s c (precinctAt s c row column at) k (x .0) (x .1) (x .2))) (go x) ≡ stop r → r .0 ≡ Fine → ⊥
+      by true e f = packed-stops k (x .0) (x .1) (packet s c (precinctAt s c row column at) k (x .0) (x .1) (x .2)) r e f
+      by false e f = goes-not e
+
+  packet-turns : EachPacket × (precinct s c row column at top cells .1 ≡ beforePacket s c row column at cells (slots (c .shape)) .2)
+  unfolding precinct packets
+  packet-turns = by (first (headerChecks s c row column at top)) fine
+    where
+      by : (v : Verdict) → packetsBy s c row column at v cells .0 ≡ Fine
+          → EachPacket × (packetsBy s c row column at v cells .1 ≡ beforePacket s c row column at cells (slots (c .shape)) .2)
+      by Fine e =
+          let q =
+          run-turns (packetTurn s c row column at) (body s c row column at, noFlags s c row column at, cells) (λ (r : Verdict × List ℤ). r .0 ≡ Fine)
+          (λ x. (first (restChecks s c row column at (x .0)), x .2)) (slots (c .shape)) (λ g r. packet-stops g (beforePacket s c row column at cells g) r) e in
+          (q, ap (λ (r : Verdict × List ℤ). r .1) (q .ends))
+      by (Refused k) e = clash e
+
+  -- the precinct ends where they do
+  pub precinct-left : precinct s c row column at top cells .1 ≡ beforePacket s c row column at cells (slots (c .shape)) .2
+  precinct-left = packet-turns .1
+
+  -- a slot with lines
+  pub precinct-packet : (k : ℕ) → k < slots (c .shape) → anyLine c (precinctAt s c row column at) k (candidates (c .shape) k) ≡ true
+      → PacketFollows s c row column at cells k
+  unfolding packetTurn
+  precinct-packet k l any =
+      let e = packet-turns .0 .goes k l in
+      by (packetReads s c row column at cells k) refl (rw any at e)
+    where
+      by : (z : Verdict × List ℤ) → packetReads s c row column at cells k ≡ z
+          → packed s c row column at k (beforePacket s c row column at cells k .0) (beforePacket s c row column at cells k .1) z ≡ go (beforePacket s c row column at cells (k + 1))
+          → PacketFollows s c row column at cells k
+      by (Fine, l′) r e =
+          let place = past s c (precinctAt s c row column at) k (beforePacket s c row column at cells k .0) in
+          let flags = set (beforePacket s c row column at cells k .1) k (rawFlag s c row column at cells k) in
+          let q : (place, flags, l′) ≡ beforePacket s c row column at cells (k + 1) = cc in
+          record { accepted = ap (λ (z : Verdict × List ℤ). z .0) r; next = sym q ∙ (λ i. (place, flags, sym r i .1)) }
+      by (Refused q, l′) r e = absurd (goes-not (sym e))
+
+  -- and one without
+  pub precinct-empty : (k : ℕ) → k < slots (c .shape) → anyLine c (precinctAt s c row column at) k (candidates (c .shape) k) ≡ false
+      → beforePacket s c row column at cells (k + 1) ≡ beforePacket s c row column at cells k
+  unfolding packetTurn
+  precinct-empty k l none =
+      let e = packet-turns .0 .goes k l in
+      by (rw none at e)
+    where
+      by : _≡_ {A = Turn (Packing s c row column at) (Verdict × List ℤ)} (go (beforePacket s c row column at cells k)) (go (beforePacket s c row column at cells (k + 1)))
+          → beforePacket s c row column at cells (k + 1) ≡ beforePacket s c row column at cells k
+      by e = cc
 
 -- ---- the precincts of an accepted slice, whose header stands at the state's place
 
@@ -39,7 +120,7 @@ pub record Follows (s : List ℕ) (c : Setting) (x : State) (t n : ℕ) : Type 0
 
 module _ (s : List ℕ) (c : Setting) (t : ℕ) (x : State) (fine : slice s c t x .0 ≡ Fine) where
   abbrev EachPrecinct : Type 0
-  EachPrecinct = Turns (precinctTurn s c t) (x .0 + 6, x .1, x .2) (λ y. (Fine, y)) (Np (c .shape) t)
+  EachPrecinct = Turns (precinctTurn s c t) (x .0 + sliceHeaderBytes, x .1, x .2) (λ y. (Fine, y)) (Np (c .shape) t)
 
   precinct-stops : (n : ℕ) (y : State) (r : Left) → precinctTurn s c t n y ≡ stop r → r .0 ≡ Fine → ⊥
   unfolding precinctTurn
@@ -56,7 +137,7 @@ module _ (s : List ℕ) (c : Setting) (t : ℕ) (x : State) (fine : slice s c t 
       by : (v : Verdict) → precinctsBy s c t v x .0 ≡ Fine → EachPrecinct × (precinctsBy s c t v x .1 ≡ beforePrecinct s c x t (Np (c .shape) t))
       by Fine e =
           let q =
-          run-turns (precinctTurn s c t) (x .0 + 6, x .1, x .2) (λ (r : Left). r .0 ≡ Fine) (λ y. (Fine, y)) (Np (c .shape) t)
+          run-turns (precinctTurn s c t) (x .0 + sliceHeaderBytes, x .1, x .2) (λ (r : Left). r .0 ≡ Fine) (λ y. (Fine, y)) (Np (c .shape) t)
           (λ g r. precinct-stops g (beforePrecinct s c x t g) r) e in
           (q, ap (λ (r : Left). r .1) (q .ends))
       by (Refused k) e = clash e

@@ -26,7 +26,7 @@ use Rattle.packets.specs.Packets.{anyLine, past, packet}
 use Rattle.packets.proofs.Laws.{packet-inside}
 use Rattle.packets.proofs.Sites.{packet-sited}
 use Rattle.slices.specs.Precinct.{precinctAt, fieldChecks, modeChecks, headerChecks, body, noFlags, Packing, packed, packetTurn, restChecks, packets, packetsBy, precinct}
-use Rattle.slices.specs.Slice.{State, Left, sliceChecks, rowOf, columnOf, isTop, placed, precinctTurn, precincts, precinctsBy, slice}
+use Rattle.slices.specs.Slice.{State, Left, sliceHeaderBytes, sliceChecks, rowOf, columnOf, isTop, placed, precinctTurn, precincts, precinctsBy, slice}
 use Rattle.slices.specs.Stream.{endChecks, sliced, sliceTurn, ended, stream}
 use Rattle.slices.proofs.PrecinctLaws.{header-inside, precinct-inside}
 use Rattle.slices.proofs.SliceLaws.{header-ends}
@@ -147,18 +147,11 @@ module _ (s : List ℕ) (c : Setting) where
         let k = sliceChecks s t (x .0) in
         by (first k) (sited (length s) k (slice-header-sited s t (x .0) h)) (header-ends s t (x .0))
       where
-        by : (v : Verdict) → Inside (length s) v → (v ≡ Fine → x .0 + 6 ≤ length s) → LeftInStream (precinctsBy s c t v x)
+        by : (v : Verdict) → Inside (length s) v → (v ≡ Fine → x .0 + sliceHeaderBytes ≤ length s) → LeftInStream (precinctsBy s c t v x)
         by Fine i k =
             run-keeps InStream LeftInStream (precinctTurn s c t) (λ y. (Fine, y)) (Np (c .shape) t) (λ y l. l) (λ n y l. precinct-turn-sited n y)
-            (Np (c .shape) t) 0 (x .0 + 6, x .1, x .2) (omega arith) (k refl)
+            (Np (c .shape) t) 0 (x .0 + sliceHeaderBytes, x .1, x .2) (omega arith) (k refl)
         by (Refused r) i k = i
-
-    pub slice-sited : (x : State) → x .0 ≤ length s → Inside (length s) (slice s c t x .0)
-    slice-sited x h = by (slice s c t x) (slice-left-sited x h)
-      where
-        by : (r : Left) → LeftInStream r → Inside (length s) (r .0)
-        by (Fine, y) k = tt
-        by (Refused r, y) k = k
 
   -- ---- the stream
 

@@ -5,7 +5,6 @@ use mathlib.Core.List.{List, [], _∷_, _++_}
 use native.Mathlib.Nat.{mul-comm, suc-mul, mod-lt, mod-eq-of-lt, div-eq-of-lt, div-lt-iff-lt-mul, mul-le-mul-right, mul-add-div-right, mul-add-mod-self-right}
 use native.Mathlib.Omega.{arith}
 use borrow.Author.Tests.{eqb-false}
-use lib.Dec.{eqb}
 use lib.IntN.{ℤ}
 use lib.ListN.{length}
 use Rattle.loops.specs.Run.{Turn, go, stop}
@@ -29,7 +28,7 @@ use Rattle.packets.specs.declared.Precinct.{Precinct}
 use Rattle.packets.specs.Ready.{Settled}
 use Rattle.slices.specs.declared.Reading.{Reading}
 use Rattle.slices.specs.Precinct.{precinctAt, precinct, raised}
-use Rattle.slices.specs.Slice.{State, Left, sliceMarker, sliceChecks, rowOf, columnOf, isTop, placed, precinctTurn, slice}
+use Rattle.slices.specs.Slice.{State, Left, sliceLength, sliceHeaderBytes, sliceMarker, sliceChecks, topRow, rowOf, columnOf, isTop, placed, precinctTurn, slice}
 use Rattle.slices.specs.Stream.{sliced, sliceTurn}
 use Rattle.slices.specs.Steps.{Placed, IsPrecinct, behind, further, Turned, Read}
 use Rattle.slices.proofs.PrecinctLaws.{clash, settled, row-is, column-is, ends-at, precinct-inside}
@@ -72,23 +71,23 @@ numbered s built {row} {column} h k =
 
 -- the precinct that is read for turn n of slice t, where `columns` is the number of precincts in a row
 module _ (s : List ℕ) (c : Setting) (t n at : ℕ) {columns : ℕ} {p : Precinct} (e : columns ≡ Npx (c .shape)) (x : IsPrecinct s c (slice-top (c .shape) t + n / columns) (n % columns) at p) where
-  pub placed-in : Settled c → t < slices (c .shape) → n < Np (c .shape) t → Placed c p (eqb (n / columns) 0)
+  pub placed-in : Settled c → t < slices (c .shape) → n < Np (c .shape) t → Placed c p (topRow (c .shape) t (slice-top (c .shape) t + n / columns))
   placed-in settled h k =
       let q : n / columns ≡ n / Npx (c .shape) = λ i. n / e i in
       let r : n % columns ≡ n % Npx (c .shape) = λ i. n % e i in
       record {
         row = omega (arith, row-is x, q, row-inside (c .shape) (settled .shape) t h n k .0);
         column = omega (arith, column-is x, r, column-inside (c .shape) (settled .shape) t h n k);
-        later = λ z. omega (arith, row-is x, eqb-false (n / columns) 0 z);
+        later = λ z. omega (arith, row-is x, eqb-false);
       }
 
   pub seen : IsPrecinct s c (rowOf s c t n) (columnOf s c t n) at p
   seen = rw (← e) x
 
-  pub seen-precinct : {v : Verdict} (cells : List ℤ) {cells′ : List ℤ} → precinct s c (p .row) (p .column) (p .at) (eqb (n / columns) 0) cells ≡ (v, cells′)
+  pub seen-precinct : {v : Verdict} (cells : List ℤ) {cells′ : List ℤ} → precinct s c (p .row) (p .column) (p .at) (topRow (c .shape) t (slice-top (c .shape) t + n / columns)) cells ≡ (v, cells′)
       → precinct s c (rowOf s c t n) (columnOf s c t n) at (isTop s c t n) cells ≡ (v, cells′)
   seen-precinct cells f =
-      (λ i. precinct s c (sym (seen .is) i .row) (sym (seen .is) i .column) (sym (seen .is) i .at) (eqb (n / sym e i) 0) cells) ∙ f
+      (λ i. precinct s c (sym (seen .is) i .row) (sym (seen .is) i .column) (sym (seen .is) i .at) (topRow (c .shape) t (slice-top (c .shape) t + n / sym e i)) cells) ∙ f
 
 -- ---- the turn of a precinct
 
@@ -126,9 +125,9 @@ module _ (c : Setting) (p : Precinct) (at : ℕ) (tops : List ℕ) where
 
 -- ---- the header of a slice
 
-pub header-ends : (s : List ℕ) (t at : ℕ) → first (sliceChecks s t at) ≡ Fine → at + 6 ≤ length s
+pub header-ends : (s : List ℕ) (t at : ℕ) → first (sliceChecks s t at) ≡ Fine → at + sliceHeaderBytes ≤ length s
 header-ends s t at e =
-    let l = lengthChecks (segmentAt s at) Lslh 4 4 in
+    let l = lengthChecks (segmentAt s at) Lslh sliceLength sliceLength in
     let y = check Value (at + 4) Ysl (fieldAt s (at + 4) 16) t t ∷ [] in
     let h = held l (append-fine l y (append-fine (sliceMarker (segmentAt s at)) (l ++ y) e .1) .0) in
     omega (arith, h .1 .0 .least, h .1 .1 .0 .least)

@@ -1,8 +1,8 @@
 -- The verdict of what stands behind the header is that of one table. Assumes nothing.
 use Prim.Native.Nat.{ℕ, _+_}
 use mathlib.Core.Bool.{Bool, true, false, cond}
-use mathlib.Core.List.{List, [], _++_}
-use mathlib.Core.Path.{_≡_, refl, sym, _∙_}
+use mathlib.Core.List.{List, []}
+use mathlib.Core.Path.{_≡_, refl, _∙_}
 use lib.IntN.{ℤ}
 use Rattle.loops.specs.Run.{Turn, go, then as next, run}
 use Rattle.loops.specs.Along.{along}
@@ -19,7 +19,7 @@ use Rattle.packets.specs.Packets.{anyLine, packet}
 use Rattle.packets.specs.Table.{packetChecks}
 use Rattle.packets.proofs.Table.{packet-table}
 use Rattle.slices.specs.Precinct.{precinctAt, headerChecks, Packing, packed, packetTurn, restChecks, body, noFlags, packets, packetsBy, precinct}
-use Rattle.slices.specs.Slice.{State, Left, sliceChecks, rowOf, columnOf, isTop, placed, precinctTurn, precincts, precinctsBy, slice}
+use Rattle.slices.specs.Slice.{State, Left, sliceHeaderBytes, sliceChecks, rowOf, columnOf, isTop, placed, precinctTurn, precincts, precinctsBy, slice}
 use Rattle.slices.specs.Stream.{endChecks, sliced, sliceTurn, ended, stream}
 use Rattle.slices.specs.Table.{slotChecks, precinctChecks, precinctTable, sliceTable, streamChecks}
 
@@ -73,14 +73,14 @@ module _ (s : List ℕ) (c : Setting) (t : ℕ) where
   slice-table : (x : State) → slice s c t x .0 ≡ first (sliceTable s c t x)
   unfolding slice precincts precinctTurn sliceTable
   slice-table x =
-      let y : State = (x .0 + 6, x .1, x .2) in
+      let y : State = (x .0 + sliceHeaderBytes, x .1, x .2) in
       joined (sliceChecks s t (x .0)) (along (precinctTurn s c t) (precinctTable s c t) (λ y. []) (Np (c .shape) t) 0 y)
       (by (first (sliceChecks s t (x .0)))) refl
       (turns-table (precinctTurn s c t) (λ y. (Fine, y)) (precinctTable s c t) (λ y. []) (λ y. refl)
       (λ n y. placed-verdict n y (precinct s c (rowOf s c t n) (columnOf s c t n) (y .0) (isTop s c t n) (y .2))
       ∙ precinct-table s c (rowOf s c t n) (columnOf s c t n) (y .0) (isTop s c t n) (y .2)) (Np (c .shape) t) 0 y)
     where
-      by : (v : Verdict) → precinctsBy s c t v x .0 ≡ then v (precincts s c t (x .0 + 6, x .1, x .2) .0)
+      by : (v : Verdict) → precinctsBy s c t v x .0 ≡ then v (precincts s c t (x .0 + sliceHeaderBytes, x .1, x .2) .0)
       by Fine = refl
       by (Refused k) = refl
 

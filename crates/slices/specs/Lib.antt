@@ -3,5 +3,6 @@ pub mod Precinct
 pub mod Slice
 pub mod Stream
 pub mod Reached
+pub mod Predicted
 pub mod Steps
 pub mod Table

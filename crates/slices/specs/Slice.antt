@@ -15,6 +15,7 @@ use Rattle.bits.specs.Fields.{fieldAt}
 use Rattle.picture.specs.Markers.{SLH, SLI}
 use Rattle.picture.specs.Segment.{segmentAt, lengthChecks}
 use Rattle.picture.specs.declared.segment.Segment.{Segment}
+use Rattle.layout.specs.declared.Shape.{Shape}
 use Rattle.layout.specs.Bands.{NL}
 use Rattle.layout.specs.Precincts.{Npx, Np, slice-top}
 use Rattle.packets.specs.declared.Setting.{Setting}
@@ -36,10 +37,21 @@ sliceMarker g =
     ∷ check Lacking (g .at) Slh (g .marker) SLH SLH
     ∷ []
 
--- A.4.14: the length is 4, the slice index Ysl is t
+-- A.4.14: Lslh counts itself and Ysl, and a slice header has the two bytes of its marker besides
+abbrev pub sliceLength : ℕ
+sliceLength = 4
+
+abbrev pub sliceHeaderBytes : ℕ
+sliceHeaderBytes = 2 + sliceLength
+
+-- A.4.14: the length, and the slice index Ysl, which is t
 abbrev pub sliceChecks : List ℕ → ℕ → ℕ → List Check
 sliceChecks s t at =
-    sliceMarker (segmentAt s at) ++ (lengthChecks (segmentAt s at) Lslh 4 4 ++ (check Value (at + 4) Ysl (fieldAt s (at + 4) 16) t t ∷ []))
+    sliceMarker (segmentAt s at) ++ (lengthChecks (segmentAt s at) Lslh sliceLength sliceLength ++ (check Value (at + 4) Ysl (fieldAt s (at + 4) 16) t t ∷ []))
+
+-- whether a row of precincts is the top row of slice t
+abbrev pub topRow : Shape → ℕ → ℕ → Bool
+topRow s t row = eqb row (slice-top s t)
 
 module _ (s : List ℕ) (c : Setting) (t : ℕ) where
   -- precinct n of the slice
@@ -50,7 +62,7 @@ module _ (s : List ℕ) (c : Setting) (t : ℕ) where
   columnOf n = n % Npx (c .shape)
 
   abbrev pub isTop : ℕ → Bool
-  isTop n = eqb (n / Npx (c .shape)) 0
+  isTop n = topRow (c .shape) t (rowOf n)
 
   abbrev pub placed : ℕ → State → Verdict × List ℤ → Turn State Left
   placed n x (Fine, cells) =
@@ -65,7 +77,7 @@ module _ (s : List ℕ) (c : Setting) (t : ℕ) where
   precincts x = run precinctTurn (λ y. (Fine, y)) (Np (c .shape) t) 0 x
 
   abbrev pub precinctsBy : Verdict → State → Left
-  precinctsBy Fine x = precincts (x .0 + 6, x .1, x .2)
+  precinctsBy Fine x = precincts (x .0 + sliceHeaderBytes, x .1, x .2)
   precinctsBy (Refused k) x = (Refused k, x)
 
   -- slice t, whose header stands at the state's place

@@ -12,7 +12,7 @@ use Rattle.packets.specs.declared.Setting.{Setting}
 use Rattle.packets.specs.Packets.{anyLine}
 use Rattle.packets.specs.Table.{packetChecks}
 use Rattle.slices.specs.Precinct.{precinctAt, headerChecks, Packing, packetTurn, restChecks, body, noFlags}
-use Rattle.slices.specs.Slice.{State, sliceChecks, rowOf, columnOf, isTop, precinctTurn}
+use Rattle.slices.specs.Slice.{State, sliceHeaderBytes, sliceChecks, rowOf, columnOf, isTop, precinctTurn}
 use Rattle.slices.specs.Stream.{endChecks, sliceTurn}
 
 module _ (s : List ℕ) (c : Setting) (row column at : ℕ) where
@@ -34,9 +34,9 @@ module _ (s : List ℕ) (c : Setting) (t : ℕ) where
   abbrev pub precinctTable : ℕ → State → List Check
   precinctTable n x = precinctChecks s c (rowOf s c t n) (columnOf s c t n) (x .0) (isTop s c t n) (x .2)
 
-  -- A.4.14: the slice's header, of 6 bytes, and its precincts
+  -- A.4.14: the slice's header and its precincts
   unfoldable pub sliceTable : State → List Check
-  sliceTable x = sliceChecks s t (x .0) ++ along (precinctTurn s c t) precinctTable (λ y. []) (Np (c .shape) t) 0 (x .0 + 6, x .1, x .2)
+  sliceTable x = sliceChecks s t (x .0) ++ along (precinctTurn s c t) precinctTable (λ y. []) (Np (c .shape) t) 0 (x .0 + sliceHeaderBytes, x .1, x .2)
 
 -- A.2: the slices, the end marker, and nothing behind it. The first slice header stands at the state's place
 unfoldable pub streamChecks : List ℕ → Setting → State → List Check

@@ -1,6 +1,6 @@
 // From the first slice header to the end of the stream: slices and their precincts.
-pub mod precincts;
-pub mod tops;
+mod precincts;
+mod tops;
 
 use layout::precincts::precinct_columns;
 use layout::precincts::precincts_in_slice;
@@ -24,7 +24,7 @@ ghost use Rattle.rows.specs.Rows.{first};
 ghost use Rattle.rows.specs.declared.Verdict.the-variants.{Fine};
 ghost use Rattle.layout.specs.Precincts.{Npy, Np, slices};
 ghost use Rattle.packets.specs.Ready.{Settled};
-ghost use Rattle.slices.specs.Slice.{sliceChecks, precinctTurn, precincts, precinctsBy, slice};
+ghost use Rattle.slices.specs.Slice.{sliceHeaderBytes, sliceChecks, precinctTurn, precincts, precinctsBy, slice};
 ghost use Rattle.slices.specs.Stream.{endChecks, stream};
 ghost use Rattle.slices.specs.Steps.{Lent, behind, Turned, Read};
 
@@ -106,8 +106,10 @@ fn precinct_turn(
     let shape = c.shape;
     let columns = precinct_columns(shape);
     let down = n / columns;
-    let p = precincts::precinct_at(s, c, t * shape.hsl + down, n % columns, at);
-    let v = precincts::precinct(s, cells, c, p, down == 0);
+    let top = t * shape.hsl;
+    let row = top + down;
+    let p = precincts::precinct_at(s, c, row, n % columns, at);
+    let v = precincts::precinct(s, cells, c, p, row == top);
     behind(v, c, p, at, tops)
 }
 
@@ -161,7 +163,7 @@ fn precincts_by(
     at: usize,
     tops: [usize; 40],
 ) -> Reading
-    requires { ⌜ Lent (now s) c at (length (now cells)) × (t < slices (c .shape)) × (v ≡ Fine → at + 6 ≤ length (now s)) ⌝ }
+    requires { ⌜ Lent (now s) c at (length (now cells)) × (t < slices (c .shape)) × (v ≡ Fine → at + sliceHeaderBytes ≤ length (now s)) ⌝ }
     ensures { λ r. ⌜ Read (now (s .entry)) (precinctsBy (now (s .entry)) c t v (at, tops, now (cells .entry))) r (now (cells .exit)) ⌝ }
 {
     match v {
@@ -175,14 +177,7 @@ fn precincts_by(
 }
 
 // Slice t, whose header stands at `at`. `tops` are the bands' largest T of the slices before.
-pub fn slice(
-    s: &[u8],
-    cells: &mut [i64],
-    c: Setting,
-    t: usize,
-    at: usize,
-    tops: [usize; 40],
-) -> Reading
+fn slice(s: &[u8], cells: &mut [i64], c: Setting, t: usize, at: usize, tops: [usize; 40]) -> Reading
     requires { ⌜ Lent (now s) c at (length (now cells)) × (t < slices (c .shape)) ⌝ }
     ensures { λ r. ⌜ Read (now (s .entry)) (slice (now (s .entry)) c t (at, tops, now (cells .entry))) r (now (cells .exit)) ⌝ }
 {

@@ -6,18 +6,19 @@ use Prim.Native.Nat.{ℕ, zero, suc, _+_, _-_, _*_, _/_, _%_, _^_, _≤_, _<_}
 use native.Mathlib.Numerals.{add-one}
 use native.Mathlib.Nat.{lt-of-lt-of-le, add-zero, sub-eq-zero-of-le}
 use native.Mathlib.Omega.{arith}
-use borrow.Author.Tests.{le-ltb}
-use lib.Dec.{ltb, eqb}
+use lib.Dec.{eqb}
 use lib.IntN.{ℤ, pos, natAbs}
 use lib.ListN.{getD}
 use lib.Pow.{pow-mono}
 use Rattle.whole.specs.Numbers.{signed}
 use Rattle.whole.proofs.Machine.{size-neg}
 use Rattle.bits.specs.Fields.{bitAt}
+use Rattle.bits.specs.Groups.{signNibbles, nibblesOf}
 use Rattle.bits.proofs.Laws.{is-field}
+use Rattle.bits.proofs.Groups.{one-or-none, nibbles-none}
 use Rattle.quantiser.specs.Inverse.{coefficientOf, scaled, Carried}
 use Rattle.quantiser.proofs.Laws.{coefficient-zero, scaled-zero}
-use Rattle.values.specs.Group.{signNibbles, nibblesOf, signBits, signBitsOf, v, s, index}
+use Rattle.values.specs.Group.{signBits, signBitsOf, v, s, index}
 use Rattle.values.specs.Line.{placed}
 use Rattle.values.specs.Steps.{SignBit, signField, value, groupValues}
 use Rattle.values.specs.declared.Coding.{Coding}
@@ -27,10 +28,6 @@ use Rattle.values.proofs.Planes.{planes-lt, four-bit}
 use Rattle.values.proofs.Places.{Placing, placed-same}
 
 -- ---- what a group takes
-
-pub one-or-none : (b : Bool) → cond b 0 1 ≤ 1
-one-or-none true = omega arith
-one-or-none false = omega arith
 
 -- at most one for each coefficient
 pub sign-bits-le : (f : ℕ → ℕ) (k : ℕ) → signBits f k ≤ k
@@ -43,19 +40,6 @@ unfolding signBits
 sign-bits-same f g zero h = refl
 sign-bits-same f g (suc n) h =
     ap₂ _+_ (sign-bits-same f g n (λ k l. h k (omega arith))) (ap (λ (x : ℕ). cond (eqb x 0) 0 1) (h n (omega arith)))
-
--- at most a sign nibble and 31 planes
-pub nibbles-le : (M T : ℕ) (fs : Bool) → M ≤ 31 → nibblesOf M T fs ≤ 32
-unfolding nibblesOf
-nibbles-le M T fs h = pick (ltb T M)
-  where
-    pick : (b : Bool) → cond b (signNibbles fs + (M - T)) 0 ≤ 32
-    pick true = omega (arith, one-or-none fs)
-    pick false = omega arith
-
-pub nibbles-none : (M T : ℕ) (fs : Bool) → M ≤ T → nibblesOf M T fs ≡ 0
-unfolding nibblesOf
-nibbles-none M T fs h = rw (le-ltb T M h)
 
 -- whatever the sign
 signed-abs : (b : Bool) (n : ℕ) → natAbs (signed b n) ≡ n

@@ -2,34 +2,21 @@
 use mathlib.Core.Bool.{Bool, false}
 use mathlib.Core.List.{List}
 use mathlib.Core.Path.{_≡_, refl, sym, ap, _∙_}
-use Prim.Native.Nat.{ℕ, zero, suc, _+_, _-_, _*_, _/_, _%_, _^_, _≤_, _<_}
+use Prim.Native.Nat.{ℕ, zero, suc, _+_, _*_, _/_, _%_, _^_, _≤_, _<_}
 use native.Mathlib.Omega.{arith}
 use lib.IntN.{ℤ, natAbs}
 use lib.ListN.{length}
 use Rattle.whole.specs.Cells.{cell}
+use Rattle.bits.specs.Groups.{Ncg, heldM}
 use Rattle.quantiser.specs.Inverse.{coefficientOf, scaled, Carried}
 use Rattle.quantiser.proofs.Laws.{carried-scaled}
-use Rattle.values.specs.Group.{countIn}
-use Rattle.values.specs.Line.{place, countPlace, groups, Fit, M, nibbles, placed, nibbleAt, signAt, indexAt, valueAt, lineValues}
+use Rattle.values.specs.Line.{place, countPlace, Fit, M, behind, groupAt, placed, indexAt, valueAt, lineValues}
 use Rattle.values.specs.declared.Coding.{Coding}
 use Rattle.values.specs.declared.Line.{Line}
 use Rattle.values.specs.declared.Next.{Next}
 use Rattle.values.proofs.Places.{placed-length, placed-other, placed-at}
 use Rattle.values.proofs.Groups.{index-lt}
-use Rattle.values.proofs.Lines.{M-le, sign-at-most, sign-at-least, sign-at-none}
-
--- ---- where a line fits: in a plane of n coefficient cells from b on, with its n count cells behind it
-
-pub fit-in-plane : {how : Coding} {l : Line} {from : Next} {n : ℕ} (b : ℕ) → b ≤ l .first → ((x : ℕ) → x < l .width → place l x < b + l .area)
-    → b + 2 * l .area ≤ n → l .width < 2 ^ 32 → from .at < 2 ^ 62 → from .sign < 2 ^ 62 → how .fq ≤ 15 → Fit how l from n
-fit-in-plane b low plane room width at sign fq = record {
-  inside = λ x h. omega (arith, plane x h);
-  apart = λ x h. omega (arith, plane x h);
-  width = width;
-  at = at;
-  sign = sign;
-  fq = fq;
-}
+use Rattle.values.proofs.Lines.{M-le, nibbles, nibble-at, sign-at-most, sign-at-least, sign-at-none}
 
 -- ---- indices and coefficients, one by one
 
@@ -62,9 +49,6 @@ module _ (dat sgn : List ℕ) (how : Coding) (l : Line) (from : Next) (cells : L
     unfolding valueAt
     line-coefficient s x h i = line-at s x h i
 
-    pub line-small : 0 < l .stride → (x : ℕ) → x < l .width → place l x < length cells → {F : ℕ} → how .fq ≤ F → natAbs (cell after (place l x)) < 2 ^ (31 + F)
-    line-small s x h i f = rw (line-at s x h i) (value-small x f)
-
     -- any other cell
     pub line-other : (p : ℕ) → ((x : ℕ) → x < l .width → p ≡ place l x → ⊥) → cell after p ≡ cell cells p
     line-other p h = rw after-is (placed-other (l .first) (l .stride) (valueAt dat sgn how l from cells) (l .width) cells p h)
@@ -72,39 +56,33 @@ module _ (dat sgn : List ℕ) (how : Coding) (l : Line) (from : Next) (cells : L
     -- the line's own counts
     pub line-counts : {n : ℕ} → Fit how l from n → (g : ℕ) → M l after g ≡ M l cells g
     unfolding M
-    line-counts fit g = ap countIn (line-other (countPlace l g) (λ x h e. omega (arith, fit .apart x h)))
+    line-counts fit g = ap heldM (line-other (countPlace l g) (λ x h e. omega (arith, fit .apart x h)))
 
     -- what it takes of each subpacket
-    pub line-nibbles : next .at ≡ from .at + nibbles l cells (how .fs) (groups l)
-    unfolding lineValues nibbleAt
-    line-nibbles = sym (ap (λ (x : Next × List ℤ). x .0 .at) e)
+    pub line-nibbles : next .at ≡ from .at + nibbles l cells (how .fs) (Ncg (l .width))
+    unfolding lineValues
+    line-nibbles = sym (ap (λ (x : Next × List ℤ). x .0 .at) e) ∙ nibble-at dat sgn how l from cells (Ncg (l .width))
 
-    next-sign : next .sign ≡ signAt dat sgn how l from cells (groups l)
+    next-sign : next .sign ≡ groupAt dat how l from cells (Ncg (l .width)) .sign
     unfolding lineValues
     next-sign = sym (ap (λ (x : Next × List ℤ). x .0 .sign) e)
 
-    pub line-signs : (from .sign ≤ next .sign) × (next .sign ≤ from .sign + 4 * groups l)
-    line-signs = omega (arith, next-sign, sign-at-least dat sgn how l from cells (groups l), sign-at-most dat sgn how l from cells (groups l))
+    pub line-signs : (from .sign ≤ next .sign) × (next .sign ≤ from .sign + 4 * Ncg (l .width))
+    line-signs = omega (arith, next-sign, sign-at-least dat sgn how l from cells (Ncg (l .width)), sign-at-most dat sgn how l from cells (Ncg (l .width)))
 
     -- with Fs = 0 there is no sign subpacket
     pub line-unsigned : how .fs ≡ false → next .sign ≡ from .sign
-    line-unsigned f = next-sign ∙ sign-at-none dat sgn how l from cells f (groups l)
+    line-unsigned f = next-sign ∙ sign-at-none dat sgn how l from cells f (Ncg (l .width))
 
--- ---- a line sees of the cells its counts alone
+-- ---- what the groups of a line take, by their counts alone
+
+pub behind-same : (dat : List ℕ) (fs : Bool) (T : ℕ) (from : Next) (f h : ℕ → ℕ) (n : ℕ) → ((g : ℕ) → g < n → f g ≡ h g) → behind dat fs T f from n ≡ behind dat fs T h from n
+unfolding behind
+behind-same dat fs T from f h zero same = refl
+behind-same dat fs T from f h (suc n) same = rw (behind-same dat fs T from f h n (λ g k. same g (omega arith)), same n (omega arith))
 
 module _ (l : Line) (cells cells′ : List ℤ) where
   pub nibbles-same : (fs : Bool) (n : ℕ) → ((g : ℕ) → g < n → M l cells g ≡ M l cells′ g) → nibbles l cells fs n ≡ nibbles l cells′ fs n
   unfolding nibbles
   nibbles-same fs zero h = refl
   nibbles-same fs (suc n) h = rw (nibbles-same fs n (λ g k. h g (omega arith)), h n (omega arith))
-
-  module _ (dat sgn : List ℕ) (how : Coding) (from : Next) where
-    sign-same : (n : ℕ) → ((g : ℕ) → g < n → M l cells g ≡ M l cells′ g) → signAt dat sgn how l from cells n ≡ signAt dat sgn how l from cells′ n
-    unfolding signAt nibbleAt
-    sign-same zero h = refl
-    sign-same (suc n) h = rw (sign-same n (λ g k. h g (omega arith)), nibbles-same (how .fs) n (λ g k. h g (omega arith)), h n (omega arith))
-
-    pub index-same : (x : ℕ) → ((g : ℕ) → g ≤ x / 4 → M l cells g ≡ M l cells′ g) → indexAt dat sgn how l from cells x ≡ indexAt dat sgn how l from cells′ x
-    unfolding indexAt nibbleAt
-    index-same x h =
-        rw (sign-same (x / 4) (λ g k. h g (omega arith)), nibbles-same (how .fs) (x / 4) (λ g k. h g (omega arith)), h (x / 4) (omega arith))

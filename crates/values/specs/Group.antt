@@ -1,38 +1,20 @@
--- A code group of a line: its four indices, as the data subpacket (C.5.4) and the sign subpacket (C.5.5) hold them. A data subpacket is a row of
+-- A code group of a line: its Ng = 4 indices, as the data subpacket (C.5.4) and the sign subpacket (C.5.5) hold them. A data subpacket is a row of
 -- nibbles, and bit k of a nibble, the first being bit 0, belongs to coefficient k of its group.
 use mathlib.Core.Bool.{Bool, cond}
 use mathlib.Core.List.{List}
-use Prim.Native.Nat.{ℕ, zero, suc, _+_, _-_, _*_, _%_, _^_}
-use lib.Dec.{ltb, eqb}
-use lib.IntN.{ℤ, pos, negsuc}
+use Prim.Native.Nat.{ℕ, zero, suc, _+_, _-_, _*_, _^_}
+use lib.Dec.{eqb}
+use lib.IntN.{ℤ}
 use Rattle.whole.specs.Numbers.{signed}
 use Rattle.bits.specs.Fields.{bitAt}
-
--- ---- the count cell of a group
-
--- what a cell holds: M + 32 T. A negative one holds 0
-abbrev pub held : ℤ → ℕ
-held (pos n) = n
-held (negsuc n) = 0
-
--- the bitplane count M in it
-unfoldable pub countIn : ℤ → ℕ
-countIn z = held z % 32
+use Rattle.bits.specs.Groups.{Ng, signNibbles}
 
 -- ---- Table C.9
 
 -- v + (d << i) for i = n - 1, .., 0: the n bitplanes of coefficient k, the highest at the nibble `from`
 unfoldable pub planes : List ℕ → ℕ → ℕ → ℕ → ℕ
 planes dat from zero k = 0
-planes dat from (suc i) k = bitAt dat (4 * from + k) * 2 ^ i + planes dat (from + 1) i k
-
--- the nibble of the signs, which stands before the planes where Fs == 0
-abbrev pub signNibbles : Bool → ℕ
-signNibbles fs = cond fs 0 1
-
--- the nibbles that a group takes: none unless M > T
-unfoldable pub nibblesOf : ℕ → ℕ → Bool → ℕ
-nibblesOf M T fs = cond (ltb T M) (signNibbles fs + (M - T)) 0
+planes dat from (suc i) k = bitAt dat (Ng * from + k) * 2 ^ i + planes dat (from + 1) i k
 
 -- ---- Table C.10
 
@@ -48,14 +30,14 @@ module _ (dat : List ℕ) (fs : Bool) (M T at : ℕ) where
   unfoldable pub v : ℕ → ℕ
   v k = planes dat (at + signNibbles fs) (M - T) k
 
-  -- the bits that the group takes of the sign subpacket: those of all four coefficients, also past the line's end (NOTE 2). None where Fs is 0
+  -- the bits that the group takes of the sign subpacket: those of all Ng coefficients, also past the line's end (NOTE 2). None where Fs is 0
   unfoldable pub signBitsOf : ℕ
-  signBitsOf = cond fs (signBits v 4) 0
+  signBitsOf = cond fs (signBits v Ng) 0
 
   module _ (sgn : List ℕ) (sign : ℕ) where
     -- s[Ng g + k]
     unfoldable pub s : ℕ → ℕ
-    s k = cond fs (bitAt sgn (sign + signBits v k)) (bitAt dat (4 * at + k))
+    s k = cond fs (bitAt sgn (sign + signBits v k)) (bitAt dat (Ng * at + k))
 
     -- the signed index of coefficient k. An index of 0 has no sign, whatever bit stands there
     unfoldable pub index : ℕ → ℤ

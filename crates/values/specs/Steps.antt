@@ -7,8 +7,9 @@ use lib.Dec.{eqb}
 use lib.IntN.{ℤ}
 use lib.ListN.{getD}
 use Rattle.bits.specs.Fields.{field}
+use Rattle.bits.specs.Groups.{Ng, nibblesOf, heldM}
 use Rattle.quantiser.specs.Inverse.{coefficientOf, scaled}
-use Rattle.values.specs.Group.{countIn, planes, nibblesOf, signBits, signBitsOf, index}
+use Rattle.values.specs.Group.{planes, signBits, signBitsOf, index}
 use Rattle.values.specs.Line.{place, countPlace, M, placed}
 use Rattle.values.specs.declared.Coding.{Coding}
 use Rattle.values.specs.declared.Group.{Group}
@@ -22,27 +23,23 @@ pub record Chosen (which : Bool) (a b r : ℕ) : Type 0 where
   pub most : r ≤ max a b
 
 pub record CountIs (z : ℤ) (r : ℕ) : Type 0 where
-  pub value : r ≡ countIn z
+  pub value : r ≡ heldM z
   pub most : r ≤ 31
-
-pub record Takes (M T : ℕ) (fs : Bool) (r : ℕ) : Type 0 where
-  pub value : r ≡ nibblesOf M T fs
-  pub most : r ≤ 32
 
 pub record SignBit (v r : ℕ) : Type 0 where
   pub value : r ≡ cond (eqb v 0) 0 1
   pub most : r ≤ 1
 
 pub record SignBits (vs : List ℕ) (r : ℕ) : Type 0 where
-  pub value : r ≡ signBits (λ k. getD vs k 0) 4
-  pub most : r ≤ 4
+  pub value : r ≡ signBits (λ k. getD vs k 0) Ng
+  pub most : r ≤ Ng
 
 pub record Magnitudes (dat : List ℕ) (from n : ℕ) (r : List ℕ) : Type 0 where
-  pub each : (k : ℕ) → k < 4 → getD r k 0 ≡ planes dat from n k
+  pub each : (k : ℕ) → k < Ng → getD r k 0 ≡ planes dat from n k
 
--- the four bits in which a group's signs begin
+-- the Ng bits in which a group's signs begin
 abbrev pub signField : List ℕ → List ℕ → Bool → ℕ → ℕ → ℕ
-signField dat sgn fs at sign = cond fs (field sgn sign 4) (field dat (4 * at) 4)
+signField dat sgn fs at sign = cond fs (field sgn sign Ng) (field dat (Ng * at) Ng)
 
 -- ---- a group in the cells
 
@@ -52,7 +49,7 @@ pub record InCells (first stride count n : ℕ) : Type 0 where
 
 pub record GroupFit (how : Coding) (g : Group) (next : Next) (n : ℕ) : Type 0 where
   pub inside : InCells (g .first) (g .stride) (g .count) n
-  pub count : g .count ≤ 4
+  pub count : g .count ≤ Ng
   pub m : g .m ≤ 31
   pub at : next .at < 2 ^ 63
   pub sign : next .sign < 2 ^ 63
@@ -74,9 +71,9 @@ module _ (dat sgn : List ℕ) (how : Coding) (g : Group) (next : Next) where
 
 -- group g is there, and its count cell is among n
 pub record HasGroup (l : Line) (g n : ℕ) : Type 0 where
-  pub some : 4 * g < l .width
+  pub some : Ng * g < l .width
   pub inside : countPlace l g < n
 
 unfoldable pub groupOf : Line → List ℤ → ℕ → Group
 groupOf l cells g =
-    record { first = place l (4 * g); stride = l .stride; count = min 4 (l .width - 4 * g); m = M l cells g; t = l .t }
+    record { first = place l (Ng * g); stride = l .stride; count = min Ng (l .width - Ng * g); m = M l cells g; t = l .t }

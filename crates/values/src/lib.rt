@@ -5,8 +5,9 @@ ghost use lib.Dec.{eqb};
 ghost use lib.IntN.{pos};
 ghost use lib.ListN.{length};
 ghost use Rattle.whole.specs.Numbers.{signed};
+ghost use Rattle.bits.specs.Groups.{Takes};
 ghost use Rattle.values.specs.Line.{Fit, placed, lineValues};
-ghost use Rattle.values.specs.Steps.{Chosen, CountIs, Takes, SignBit, SignBits, Magnitudes, signField, InCells, GroupFit, groupValues, HasGroup, groupOf};
+ghost use Rattle.values.specs.Steps.{Chosen, CountIs, SignBit, SignBits, Magnitudes, signField, InCells, GroupFit, groupValues, HasGroup, groupOf};
 
 // Where a line stands in the cells, and its precinct's truncation position in its band. Coefficient x has the cell first + x·stride, and the count
 // cell of a code group stands `area` cells behind that of its first coefficient.
@@ -58,8 +59,8 @@ fn chosen(which: bool, a: usize, b: usize) -> usize
     if which { a } else { b }
 }
 
-// The nibbles that a code group takes of the data stretch: a pass over the counts adds these up to judge the length of the stretch.
-pub fn nibbles_of(m: usize, t: usize, fs: bool) -> usize
+// The nibbles that a code group takes of the data stretch.
+fn nibbles_of(m: usize, t: usize, fs: bool) -> usize
     requires { ⌜ m ≤ 31 ⌝ }
     ensures { λ r. ⌜ Takes m t fs r ⌝ }
 {

@@ -1,7 +1,6 @@
 -- `bits::u8_at` meets its contract. Assumes nothing.
 use native.Mathlib.Omega.{arith}
 use borrow.Author.Needs.{needs}
-use denote.Ref.{now}
 use Rattle.bits.proofs.Laws.{is-byte, is-past}
 use Rattle.bits.proofs.u8_at.Statement.{statement}
 use Rattle.bits.proofs.u8_at.Tie as tie

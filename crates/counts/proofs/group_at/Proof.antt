@@ -42,7 +42,7 @@ returns-3 c =
     let h = c .before .before in
     let k = h .before .before .before in
     vertical-is _ _ _ _ _ _ _ _ (k .before .enum-told3 .given .1) (c .before .is-insignificant2 .ensures)
-    (k .count-cell .ensures) (h .before .held-arg .given) (h .held .ensures) (c .read-vertical .ensures)
+    (omega (arith, k .count-cell .ensures)) (h .before .held-arg .given) (h .held .ensures) (c .read-vertical .ensures)
 
 pub group-at-spec : {M : Type 1} → statement M
 group-at-spec =

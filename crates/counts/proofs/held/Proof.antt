@@ -8,7 +8,7 @@ use mir.Syntax.{w64}
 use mir.Facts.{toZ-ofZ, fits-natAbs}
 use Rattle.whole.proofs.Linear.{ltZ-true}
 use Rattle.whole.proofs.Machine.{cast-pos, pos-is}
-use Rattle.counts.specs.Lines.{held}
+use Rattle.bits.specs.Groups.{held}
 use Rattle.counts.proofs.held.Statement.{statement}
 use Rattle.counts.proofs.held.Tie as tie
 

@@ -1,10 +1,11 @@
 -- `packets::open` meets its contract. Assumes nothing.
-use mathlib.Core.Path.{sym, ap, _∙_}
+use mathlib.Core.Path.{sym, _∙_}
 use native.Mathlib.Omega.{arith}
 use borrow.Author.Needs.{needs}
 use denote.Ref.{now}
 use Rattle.layout.proofs.Slots.{slots-most}
 use Rattle.packets.proofs.Stretches.{head-table, head-inside}
+use Rattle.packets.proofs.Flags.{flags-table}
 use Rattle.packets.proofs.open.Statement.{statement}
 use Rattle.packets.proofs.open.Tie as tie
 
@@ -29,7 +30,8 @@ returns c =
     let parts = c .before .before .before .before .before .before .before .before .before .parts-of .ensures in
     let verdict =
     head-table (now (a .s)) (a .c) (a .p) (a .slot) (a .at) header parts (a .raws) (c .before .before .before .bytes .ensures)
-    (c .before .before .before .before .before .before .before .before .bound-flag .ensures) (c .before .before .before .before .before .before .before .bound-flag2 .ensures) (c .before .before .before .before .before .before .choose .ensures)
+    (c .before .before .before .before .before .before .before .before .bound-flag .ensures) (c .before .before .before .before .before .before .before .bound-flag2 .ensures)
+    (flags-table (now (a .s)) (a .c) (a .p) (a .slot) (a .at) (start .pre .0 .slotted) (start .pre .2) (a .raws)) (c .before .before .before .before .before .before .choose .ensures)
     (c .before .before .less .ensures) (c .before .less2 .ensures) (c .first .ensures) in
     record {
       verdict = verdict;

@@ -19,7 +19,7 @@ within c =
     }
 
 open-requires : tie.Need-open-requires
-open-requires c κs = (within (c .before), c .before .pre .2)
+open-requires c κs = (within (c .before), c .before .pre .2, c .before .pre .4)
 
 counts-by-requires : tie.Need-counts-by-requires
 counts-by-requires c κs =

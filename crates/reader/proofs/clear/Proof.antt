@@ -1,11 +1,11 @@
 -- `reader::clear` meets its contract. The invariant: the first i cells are 0. Assumes nothing.
 use mathlib.Core.Path.{_≡_, refl, sym, ap, _∙_}
-use mathlib.Core.List.{List, _++_}
+use mathlib.Core.List.{List}
 use Prim.Native.Nat.{ℕ, suc, _+_, _-_, _≤_}
 use native.Mathlib.Numerals.{add-one}
 use native.Mathlib.Omega.{arith}
 use lib.IntN.{ℤ, pos}
-use lib.ListN.{length, take, set, replicate, length-set, replicate-append-replicate}
+use lib.ListN.{length, take, replicate, length-set, replicate-append-replicate}
 use lib.Seq.{take-all, take-suc-set}
 use borrow.Author.Needs.{needs}
 use Rattle.reader.proofs.clear.Statement.{statement}

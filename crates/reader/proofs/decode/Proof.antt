@@ -1,5 +1,5 @@
 -- `reader::decode` meets its contract. Assumes nothing.
-use mathlib.Core.Path.{_≡_, ap, _∙_}
+use mathlib.Core.Path.{ap, _∙_}
 use lib.IntN.{pos}
 use lib.ListN.{length, length-replicate}
 use borrow.Author.Needs.{needs}

@@ -1,11 +1,8 @@
 -- `reader::read_by` meets its contract. Assumes nothing.
-use mathlib.Core.Path.{_≡_, sym, _∙_, subst}
-use Prim.Native.Nat.{_≤_}
+use mathlib.Core.Path.{sym, _∙_, subst}
 use native.Mathlib.Nat.{le-refl}
-use native.Mathlib.Omega.{arith}
 use borrow.Author.Needs.{needs}
 use Rattle.layout.specs.Cells.{samples}
-use Rattle.header.specs.declared.header.Header.{Header}
 use Rattle.reader.specs.Steps.{Opened}
 use Rattle.reader.proofs.Openings.{opened}
 use Rattle.reader.proofs.Leaving.{reads, reads-none}

@@ -13,14 +13,14 @@ use Rattle.slices.proofs.precinct_turn.Tie as tie
 div-down : tie.Need-div-down
 div-down c = omega (arith, c .precinct-columns .ensures .0, Npx-some (c .before .before .before .args .c .shape) (c .before .before .before .pre .0 .settled .shape))
 
-mul-precinct-at : tie.Need-mul-precinct-at
-mul-precinct-at c =
+mul-top : tie.Need-mul-top
+mul-top c =
     let a = c .before .before .before .before .args in
     let h = c .before .before .before .before .pre in
     omega (arith, row-inside (a .c .shape) (h .0 .settled .shape) (a .t) (h .1) (a .n) (h .2) .0, Npy-most (a .c .shape) (h .0 .settled .shape))
 
-add-precinct-at : tie.Need-add-precinct-at
-add-precinct-at c =
+add-row : tie.Need-add-row
+add-row c =
     let a = c .before .before .before .before .args in
     let h = c .before .before .before .before .pre in
     let q : a .n / c .before .precinct-columns .result ≡ a .n / Npx (a .c .shape) = λ i. a .n / c .before .precinct-columns .ensures .0 i in
@@ -59,8 +59,8 @@ precinct-turn-spec =
     (tie.spec
     (λ c κs. search needs)
     div-down
-    mul-precinct-at
-    add-precinct-at
+    mul-top
+    add-row
     rem-precinct-at
     (λ c κs. search needs)
     precinct-requires

@@ -94,7 +94,7 @@ returns c =
     let n = c .before .before .before in
     let l = n .before .before in
     let i = l .before .loop .inv in
-    group-is _ _ _ _ _ (n .nibbles-of .ensures .value) (used-all (i .1) (n .before .sign-bits .ensures .value) (c .before .chosen3 .ensures .value)) (i .3) (omega (arith, l .loop-test .left, i .0))
+    group-is _ _ _ _ _ (n .nibbles-of .ensures .number) (used-all (i .1) (n .before .sign-bits .ensures .value) (c .before .chosen3 .ensures .value)) (i .3) (omega (arith, l .loop-test .left, i .0))
 
 pub coded-group-spec : {M : Type 1} → statement M
 coded-group-spec =

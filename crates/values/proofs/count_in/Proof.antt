@@ -11,7 +11,7 @@ use mir.Val.{toZ, ofZ}
 use mir.Facts.{fits-natAbs}
 use Rattle.whole.proofs.Linear.{ltZ-true, ltZ-false}
 use Rattle.whole.proofs.Machine.{back64}
-use Rattle.values.specs.Group.{held, countIn}
+use Rattle.bits.specs.Groups.{held}
 use Rattle.values.proofs.count_in.Statement.{statement}
 use Rattle.values.proofs.count_in.Tie as tie
 
@@ -30,11 +30,9 @@ cast-result : tie.Need-cast-result
 cast-result c = let s = c .before in rw (read s) (above (s .args .z) (rw (read s) at (c .if1 .left)) .0, fits-natAbs tt (s .fits .z))
 
 returns : tie.Need-returns
-unfolding countIn
 returns c = record { value = ap (λ (n : ℕ). n % 32) (sym (below (c .before .args .z) (rw (read (c .before)) at (c .if1 .taken)))); most = lit≤ tt }
 
 returns-2 : tie.Need-returns-2
-unfolding countIn
 returns-2 c =
     let s = c .before in
     rw (read s) (record { value = ap (λ (n : ℕ). n % 32) (sym (above (s .args .z) (rw (read s) at (c .if1 .left)) .1)); most = omega arith })

@@ -2,16 +2,16 @@
 use Prim.Native.Nat.{_-_, _*_, _≤_, _<_}
 use native.Mathlib.Omega.{arith}
 use borrow.Author.Needs.{needs}
-use Rattle.values.specs.Line.{groups}
+use Rattle.bits.specs.Groups.{Ncg}
 use Rattle.values.proofs.Lines.{Reached, reached-first, reached-next, reached-last, fits-group}
 use Rattle.values.proofs.line_values.Statement.{statement}
 use Rattle.values.proofs.line_values.Tie as tie
 
 abbrev Inv-loop : tie.InvT-loop
-Inv-loop dat sgn cells₀ how line groups′ from g₀ cells next g = (g ≤ groups line) × Reached dat sgn how line from g cells₀ next cells
+Inv-loop dat sgn cells₀ how line groups′ from g₀ cells next g = (g ≤ Ncg (line .width)) × Reached dat sgn how line from g cells₀ next cells
 
 abbrev μ-loop : tie.MeasureT-loop
-μ-loop dat sgn cells₀ how line groups′ from g₀ cells next g = groups line - g
+μ-loop dat sgn cells₀ how line groups′ from g₀ cells next g = Ncg (line .width) - g
 
 abbrev start : tie.In-loop Inv-loop μ-loop → tie.Start Inv-loop μ-loop
 start c = c .before .before .before .before .before

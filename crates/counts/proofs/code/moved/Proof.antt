@@ -10,10 +10,10 @@ returns : tie.Need-returns
 returns c = rw (c .before .threshold .ensures) (sym (vlc-unary _ _ _ (omega arith)))
 
 returns-2 : tie.Need-returns-2
-returns-2 c = sym (vlc-odd _ _ _ (omega arith) (c .if2 .taken))
+returns-2 c = sym (vlc-odd _ _ _ (omega arith) (omega arith))
 
 returns-3 : tie.Need-returns-3
-returns-3 c = sym (vlc-even _ _ _ (omega arith) (c .if2 .left))
+returns-3 c = sym (vlc-even _ _ _ (omega arith) (λ odd. omega arith))
 
 pub moved-spec : {M : Type 1} → statement M
 moved-spec =

@@ -3,6 +3,7 @@ use mathlib.Core.Bool.{_&&_, cond}
 use mathlib.Core.Path.{_∙_}
 use lib.Dec.{eqb}
 use Rattle.picture.specs.Markers.{CAPTION}
+use Rattle.header.specs.Walk.{noneYet}
 use borrow.Author.Needs.{needs}
 use Rattle.header.proofs.walk.caption_place.Statement.{statement}
 use Rattle.header.proofs.walk.caption_place.Tie as tie
@@ -10,7 +11,7 @@ use Rattle.header.proofs.walk.caption_place.Tie as tie
 returns : tie.Need-returns
 returns c =
     let a = c .before .before .before .before .before .args in
-    c .choose .ensures ∙ (λ i. cond (eqb (c .before .before .u16-at .ensures .value i) CAPTION && eqb (a .x .caption) 0) (a .g .at) (a .x .caption))
+    c .choose .ensures ∙ (λ i. cond (eqb (c .before .before .u16-at .ensures .value i) CAPTION && noneYet (a .x)) (a .g .at) (a .x .caption))
 
 pub caption-place-spec : {M : Type 1} → statement M
 caption-place-spec = tie.close (tie.spec (λ c. search needs) (λ c κs. search needs) (λ c κs. search needs) returns)

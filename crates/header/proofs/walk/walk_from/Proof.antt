@@ -6,7 +6,7 @@ use borrow.Author.Tests.{not-true, not-false}
 use denote.Ref.{now}
 use lib.ListN.{length}
 use Rattle.loops.proofs.Laws.{Looping, loop-begins, loop-goes-on, loop-stops}
-use Rattle.header.specs.Walk.{turn, begun, walk, Inside}
+use Rattle.header.specs.Turns.{turn, begun, walk, Inside}
 use Rattle.header.proofs.Steps.{left, step-falls, turn-on, turn-end, step-inside}
 use borrow.Author.Needs.{needs}
 use Rattle.header.proofs.walk.walk_from.Statement.{statement}

@@ -15,7 +15,7 @@ first-line-divides-requires : tie.Need-first-line-divides-requires
 first-line-divides-requires c κs =
     let e = c .before .before in
     let f : SmallFilter (c .before .filter-type .result) = rw (c .before .filter-type .ensures) (filter-small (e .args .s .nlx) (e .args .s .nly) (e .args .beta) (e .pre .0 .no-more) (e .pre .0 .levels) (e .pre .0 .down-levels)) in
-    (e .pre .0 .down-levels, rw (c .before .filter-type .ensures) (down-most (e .args .s .nlx) (e .args .s .nly) (e .args .beta)), f .ty, c .component-of .ensures .small .down)
+    (e .pre .0 .down-levels, rw (c .before .filter-type .ensures) (down-most (e .args .s .nlx) (e .args .s .nly) (e .args .beta)), f .ty)
 
 returns : tie.Need-returns
 unfolding kind dx dy depth exists

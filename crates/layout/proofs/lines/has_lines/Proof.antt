@@ -1,7 +1,7 @@
 -- `layout::lines::has_lines` meets its contract. Assumes nothing.
 use mathlib.Core.Path.{_≡_, refl, _∙_}
 use mathlib.Core.Bool.{Bool, true, false, _&&_}
-use Prim.Native.Nat.{ℕ, _+_, _*_, _-_, _/_, _%_, _^_, _≤_, _<_, min}
+use Prim.Native.Nat.{ℕ, _+_, _-_, _/_, _%_, _<_, min}
 use native.Mathlib.Nat.{zero-mod, zero-div, add-zero}
 use native.Mathlib.Omega.{arith}
 use borrow.Author.Needs.{needs}

@@ -1,7 +1,7 @@
 -- `layout::lines::line_of` meets its contract. Assumes nothing.
 use mathlib.Core.Path.{_≡_, ap, _∙_}
 use mathlib.Core.Bool.{_&&_}
-use Prim.Native.Nat.{_+_, _*_, _-_, _/_, _%_, _^_, _≤_}
+use Prim.Native.Nat.{_+_, _*_, _/_, _%_, _^_, _≤_}
 use native.Mathlib.Nat.{mul-le-mul}
 use native.Mathlib.Omega.{arith}
 use lib.Dec.{eqb, ltb}
@@ -10,7 +10,8 @@ use Rattle.layout.specs.declared.lines.Reach.{Reach}
 use Rattle.layout.specs.declared.lines.Span.{Span}
 use Rattle.layout.specs.Bands.{sy, exists, band}
 use Rattle.layout.specs.Precincts.{first-x, first-y, Wpb}
-use Rattle.layout.specs.Packets.{included, Ncg, Ns}
+use Rattle.bits.specs.Groups.{Ncg, Ns}
+use Rattle.layout.specs.Packets.{included}
 use Rattle.layout.specs.Cells.{area, inner}
 use Rattle.layout.specs.Slots.{line}
 use Rattle.layout.specs.Sizes.{band-of, column-of, reach-of, span-of, inner-of}

@@ -1,6 +1,6 @@
 -- `packets::passes::packet_values` meets its contract. Assumes nothing.
 use mathlib.Core.Bool.{true}
-use mathlib.Core.Path.{_≡_, refl, ap, _∙_}
+use mathlib.Core.Path.{_≡_, refl, _∙_}
 use mathlib.Core.List.{List}
 use Prim.Native.Nat.{_≤_, _<_, _-_, _*_, _^_}
 use native.Mathlib.Omega.{arith}

@@ -13,6 +13,11 @@ any-line-requires c κs =
     let h = c .before .pre in
     record { settled = h .0; row = h .1 .row; column = h .1 .column; which = h .3 }
 
+packet-requires : tie.Need-packet-requires
+packet-requires c κs =
+    let h = c .before .before .before .before .pre in
+    (h .0, h .1, h .2, h .3, sym (c .before .before .any-line .ensures) ∙ c .before .if1 .taken)
+
 mul-flags : tie.Need-mul-flags
 mul-flags c =
     let h = c .before .before .before .before .before .before .pre in
@@ -42,4 +47,4 @@ returns-2 c =
     }
 
 pub packet-turn-spec : {M : Type 1} → statement M
-packet-turn-spec = tie.close (tie.spec any-line-requires (λ c κs. search needs) mul-flags array-write-flags (λ c. search needs) returns returns-2)
+packet-turn-spec = tie.close (tie.spec any-line-requires packet-requires mul-flags array-write-flags (λ c. search needs) returns returns-2)

@@ -1,0 +1,4 @@
+-- Whole pages, computed.
+pub mod Streams
+pub mod Answers
+pub mod Table
