@@ -66,8 +66,18 @@ struct PacketHeader {
     ldat: usize,
     lcnt: usize,
     lsgn: usize,
-    /// Where in the header the byte stands that holds the first bit of the sign length.
-    lsgn_at: usize,
+}
+
+impl PacketHeader {
+    /// The bytes of the sign subpacket. With Fs = 0 there is none: L_sgn is "present, but is ignored" (Table C.4), and
+    /// any number may be left in it (document 02, C-11).
+    fn sign_length(&self, fs: bool) -> usize {
+        if fs {
+            self.lsgn
+        } else {
+            0
+        }
+    }
 }
 
 /// A line of a packet within one column of precincts.
@@ -161,12 +171,12 @@ impl<'a> Reader<'a> {
         let data = subpacket(self.s, data_at, head.ldat, end)?;
         self.unpack_data(&spans, data).map_err(|row| Refusal { row, place: data_at })?;
         let signs_at = data_at + head.ldat;
+        let signs = subpacket(self.s, signs_at, head.sign_length(self.header.fs), end)?;
         if self.header.fs {
-            let signs = subpacket(self.s, signs_at, head.lsgn, end)?;
             unpack_signs(&mut self.indices, signs).map_err(|row| Refusal { row, place: signs_at })?;
         }
         self.dequantise(&spans);
-        Ok(signs_at + head.lsgn)
+        Ok(signs_at + signs.len())
     }
 
     /// Reads and judges a packet header (C.3).
@@ -181,7 +191,6 @@ impl<'a> Reader<'a> {
                 require(raw == head.raw, Row::Mode, at)?;
             }
         }
-        require(self.header.fs || head.lsgn == 0, Row::Value, at + head.lsgn_at)?;
         Ok(head)
     }
 
@@ -278,7 +287,6 @@ fn packet_header(bytes: &[u8], long: bool) -> PacketHeader {
         ldat: field(lsgn_width + lcnt_width, ldat_width),
         lcnt: field(lsgn_width, lcnt_width),
         lsgn: field(0, lsgn_width),
-        lsgn_at: (1 + ldat_width + lcnt_width) as usize / 8,
     }
 }
 
@@ -410,11 +418,44 @@ mod tests {
     #[test]
     fn packet_header_fields() {
         let short = packet_header(&[0x80, 0x03, 0x00, 0x28, 0x07], false);
-        assert!(short.raw && short.lsgn_at == 3);
+        assert!(short.raw);
         assert_eq!((short.ldat, short.lcnt, short.lsgn), (3, 5, 7));
         let long = packet_header(&[0x00, 0x00, 0x18, 0x00, 0x02, 0x80, 0x07], true);
-        assert!(!long.raw && long.lsgn_at == 5);
+        assert!(!long.raw);
         assert_eq!((long.ldat, long.lcnt, long.lsgn), (3, 5, 7));
+    }
+
+    /// Reads a precinct of four packets, each a header with this sign length and a raw count of 0, and of filler.
+    fn read_precinct(lh: bool, fs: bool, lsgn: u64, filler: usize) -> Result<usize, Refusal> {
+        let header = Header { lh, fs, ..Header::plain(2, 2, 1, 1, &[(1, 1)]) };
+        let layout = Layout::new(&header);
+        let (size, lsgn_width) = if lh { (7, 15) } else { (5, 11) };
+        let fields: u64 = 1 << (8 * size - 1) | 1 << lsgn_width | lsgn;
+        let packet = [&fields.to_be_bytes()[8 - size..], &[0]].concat();
+        let body = [packet.repeat(4), vec![0; filler]].concat();
+        let s = [&[0, 0, body.len() as u8, 0, 0, 0], &body[..]].concat();
+        Reader::new(&s, &header, &layout).precinct(0, true, 0, &layout.packets(0))
+    }
+
+    #[test]
+    fn without_sign_subpackets_their_length_is_ignored() {
+        for (lh, packet, largest) in [(false, 6, 0x7ff), (true, 8, 0x7fff)] {
+            for lsgn in [0, 1, packet as u64, largest] {
+                assert_eq!(read_precinct(lh, false, lsgn, 0), Ok(6 + 4 * packet));
+            }
+            assert_eq!(read_precinct(lh, true, 0, 0), Ok(6 + 4 * packet));
+            let past = Refusal { row: Row::Length, place: 6 + packet };
+            assert_eq!(read_precinct(lh, true, largest, 0), Err(past));
+        }
+    }
+
+    #[test]
+    fn an_ignored_sign_length_fills_no_precinct() {
+        let unfilled = Refusal { row: Row::Length, place: 0 };
+        for lh in [false, true] {
+            assert_eq!(read_precinct(lh, false, 3, 3), Err(unfilled));
+            assert_eq!(read_precinct(lh, false, 3, 12), Err(unfilled));
+        }
     }
 
     #[test]

@@ -1,7 +1,7 @@
 //! Spoils sound streams.
 
 use crate::rng::Rng;
-use crate::stream::{Field, Stream, Subpacket};
+use crate::stream::{Content, Field, Stream};
 use std::ops::Range;
 
 type Way = fn(&mut Rng, &mut Stream);
@@ -201,8 +201,8 @@ fn grow_precinct(rng: &mut Rng, stream: &mut Stream) {
 
 /// Writes ones over the end of a count subpacket, so that a code is too long or cut.
 fn lengthen_code(rng: &mut Rng, stream: &mut Stream) {
-    let counts: Vec<_> =
-        stream.subpackets.iter().filter(|subpacket| subpacket.counts && !subpacket.bytes.is_empty()).collect();
+    let mut counts = stream.subpackets_of(Content::Counts);
+    counts.retain(|subpacket| !subpacket.bytes.is_empty());
     if counts.is_empty() {
         return flip_bits(rng, stream);
     }
@@ -214,7 +214,7 @@ fn lengthen_code(rng: &mut Rng, stream: &mut Stream) {
 
 /// Makes a count subpacket begin, and perhaps end, with about as many ones as a code may have; both lengths are mended.
 fn replace_counts(rng: &mut Rng, stream: &mut Stream) {
-    let counts: Vec<&Subpacket> = stream.subpackets.iter().filter(|subpacket| subpacket.counts).collect();
+    let counts = stream.subpackets_of(Content::Counts);
     let subpacket = counts[rng.below(counts.len())].clone();
     let mut bytes = vec![0xff; rng.pick(&[3, 4, 5, 7, 8, 9])];
     if rng.once_in(2) {

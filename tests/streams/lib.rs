@@ -7,6 +7,7 @@ pub mod setting;
 mod bounds;
 mod damage;
 mod forward;
+mod leftover;
 mod picture;
 mod rng;
 mod stream;
@@ -112,8 +113,11 @@ fn sound(rng: &mut Rng, kind: Kind, limits: Limits) -> (Stream, Option<Vec<Vec<u
         let exact = bands.as_ref().map(|bands| samples(&header, &layout, bands));
         let source = bands.map_or(Source::Syntax, Source::Coefficients);
         let max_q = rng.pick(&[0, 0, 3, 8, 31]);
-        let stream = write::stream(rng, &header, &layout, Manner { max_q, varied: true }, &source);
+        let mut stream = write::stream(rng, &header, &layout, Manner { max_q, varied: true }, &source);
         if stream.bytes.len() <= limits.bytes {
+            if !header.fs {
+                leftover::leave(&mut rng.aside(), &mut stream);
+            }
             return (stream, exact);
         }
     }

@@ -7,6 +7,11 @@ impl Rng {
         Rng(seed)
     }
 
+    /// A generator of its own: what is drawn from it changes nothing that is drawn from this one.
+    pub fn aside(&self) -> Rng {
+        Rng(Rng(self.0).next())
+    }
+
     pub fn next(&mut self) -> u64 {
         self.0 = self.0.wrapping_add(0x9e37_79b9_7f4a_7c15);
         let mut z = self.0;

@@ -12,12 +12,25 @@ pub struct Stream {
     pub subpackets: Vec<Subpacket>,
 }
 
+impl Stream {
+    pub fn subpackets_of(&self, content: Content) -> Vec<&Subpacket> {
+        self.subpackets.iter().filter(|subpacket| subpacket.content == content).collect()
+    }
+}
+
+/// What a subpacket holds.
+#[derive(Clone, Copy, PartialEq, Eq)]
+pub enum Content {
+    Counts,
+    Data,
+    Signs,
+}
+
 /// Where the bytes of a count, data or sign subpacket stand.
 #[derive(Clone)]
 pub struct Subpacket {
     pub bytes: Range<usize>,
-    /// Whether it holds bitplane counts.
-    pub counts: bool,
+    pub content: Content,
     /// Its length field, that of its precinct, and the raw flag of its packet.
     pub length: Field,
     pub precinct: Field,

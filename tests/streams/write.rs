@@ -2,7 +2,7 @@
 
 use crate::forward;
 use crate::rng::Rng;
-use crate::stream::{Bits, Draft, Field, Stream, Subpacket};
+use crate::stream::{Bits, Content, Draft, Field, Stream, Subpacket};
 use independent::a::Header;
 use independent::b::{Layout, Line, NG, SS};
 
@@ -209,11 +209,13 @@ impl Writer<'_> {
         let fields = [(u64::from(raw), 1), (lengths[0], widths[0]), (lengths[1], widths[1]), (lengths[2], widths[2])];
         let head = self.draft.put(&fields);
         self.draft.bits.bytes.extend(body.flags.bytes);
-        for (bytes, length, counts) in [(counts, head[2], true), (data, head[1], false), (signs, head[3], false)] {
+        let subpackets =
+            [(counts, head[2], Content::Counts), (data, head[1], Content::Data), (signs, head[3], Content::Signs)];
+        for (bytes, length, content) in subpackets {
             let start = self.draft.length();
             self.draft.bits.bytes.extend(bytes);
             let bytes = start..self.draft.length();
-            self.draft.subpackets.push(Subpacket { bytes, counts, length, precinct, raw: head[0] });
+            self.draft.subpackets.push(Subpacket { bytes, content, length, precinct, raw: head[0] });
         }
     }
 

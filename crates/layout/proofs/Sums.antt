@@ -2,6 +2,7 @@
 use mathlib.Core.Path.{_≡_, refl}
 use mathlib.Core.Bool.{Bool, true, false, cond}
 use Prim.Native.Nat.{ℕ, zero, suc, _+_, _*_, _/_, _%_, _^_, _≤_, _<_}
+use native.Mathlib.Decide.{decLt}
 use native.Mathlib.Nat.{mul-le-mul, mul-comm, div-lt-iff-lt-mul, mod-lt}
 use native.Mathlib.Numerals.{add-one}
 use native.Mathlib.Omega.{arith}
@@ -23,6 +24,18 @@ one-most false = omega arith
 pub modes-next : (s : Shape) (b : ℕ) → modes s (b + 1) ≡ modes s b + cond (band-exists s b) 1 0
 unfolding modes
 modes-next s b = rw add-one
+
+-- the field of an existing band is one of those below any later band
+pub modes-past : (s : Shape) (b n : ℕ) → b < n → band-exists s b ≡ true → modes s b + 1 ≤ modes s n
+unfolding modes
+modes-past s b zero l e = absurd (omega arith)
+modes-past s b (suc n) l e = pick (decLt b n) (modes-past s b n)
+  where
+    pick : Dec (b < n) → (b < n → band-exists s b ≡ true → modes s b + 1 ≤ modes s n) → modes s b + 1 ≤ modes s n + cond (band-exists s n) 1 0
+    pick (yes k) before = omega (arith, before k e)
+    pick (no k) before =
+        let last : n ≡ b = omega arith in
+        rw (last, e) (omega arith)
 
 -- the filter types, and a band's β and i
 pub types-most : (s : Shape) → Built s → Nβ s ≤ 10

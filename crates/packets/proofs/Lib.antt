@@ -13,3 +13,5 @@ pub mod Flags
 pub mod Walked
 pub mod Above
 pub mod Nibbles
+pub mod Alike
+pub mod Leftover

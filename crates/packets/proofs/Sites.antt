@@ -45,7 +45,7 @@ module _ (s : List ℕ) (c : Setting) (p : Precinct) (slot at n : ℕ) (from : p
     from,
     λ header.
         sited-append n (flagChecks s c p slot at raws) (behind-flag s c p slot at) (flags-sited raws (omega arith)) (λ e.
-        (omega arith, λ none. (omega arith, λ sig. (omega arith, λ cnt. tt)))),
+        (omega arith, λ sig. (omega arith, λ cnt. tt))),
   )
 
   -- the signs, which are judged where nothing is refused before them

@@ -2,7 +2,7 @@
 use mathlib.Core.Path.{_≡_, refl, sym, ap, subst, _∙_}
 use mathlib.Core.Bool.{Bool, true, false, cond}
 use mathlib.Core.List.{List, [], _∷_, _++_}
-use Prim.Native.Nat.{ℕ, _+_, _-_, _/_, _^_, _≤_, _<_}
+use Prim.Native.Nat.{ℕ, _+_, _-_, _^_, _≤_, _<_}
 use native.Mathlib.Omega.{arith}
 use borrow.Author.Tests.{lt-ltb}
 use lib.Dec.{eqb}
@@ -11,8 +11,8 @@ use Rattle.whole.specs.Numbers.{ceilDiv}
 use Rattle.rows.specs.Rows.{check, ample, first, then, broken}
 use Rattle.rows.specs.declared.Verdict.{Verdict}
 use Rattle.rows.specs.declared.Verdict.the-variants.{Fine, Refused}
-use Rattle.rows.specs.declared.Row.the-variants.{Value, Length, Count, Mode}
-use Rattle.rows.specs.declared.Field.the-variants.{Packet, Dr, Lsgn, Significance, Counts, Data, Signs}
+use Rattle.rows.specs.declared.Row.the-variants.{Length, Count, Mode}
+use Rattle.rows.specs.declared.Field.the-variants.{Packet, Dr, Significance, Counts, Data, Signs}
 use Rattle.rows.specs.declared.Check.{Check}
 use Rattle.rows.proofs.Tables.{held, append-fine, first-append}
 use Rattle.bits.specs.Packet.{headerBytes}
@@ -26,13 +26,16 @@ use Rattle.packets.specs.declared.Precinct.{Precinct}
 use Rattle.packets.specs.declared.Parts.{Parts}
 use Rattle.packets.specs.Precincts.{stretch}
 use Rattle.packets.specs.Passes.{marks, packetCounts, packetValues}
-use Rattle.packets.specs.Packets.{flagChecks, head, raw, Lsig, sigAt, cntAt, datAt, Lsign, past, headChecks, countChecks, dataChecks, afterValues, valuesBy, afterCounts, countsBy, countsOf}
+use Rattle.packets.specs.Packets.{signLength, flagChecks, head, raw, Lsig, sigAt, cntAt, datAt, Lsign, past, headChecks, countChecks, dataChecks, afterValues, valuesBy, afterCounts, countsBy, countsOf}
 use Rattle.packets.specs.Steps.{Working, IsParts, boundFlag}
 use Rattle.packets.proofs.LinePasses.{standing-still}
 
-pub chosen-most : (b : Bool) (x : ℕ) → cond b x 0 ≤ x
-chosen-most true x = omega arith
-chosen-most false x = omega arith
+pub signs-most : (c : Setting) (h : PacketHeader) → signLength c h ≤ h .lsgn
+signs-most c h = by (c .fs) refl
+  where
+    by : (b : Bool) → c .fs ≡ b → signLength c h ≤ h .lsgn
+    by true e = rw e (omega arith)
+    by false e = rw e (omega arith)
 
 pub working-still : {s : List ℕ} {c : Setting} {p : Precinct} {slot n k : ℕ} → Working s c p slot n → k ≡ n → Working s c p slot k
 working-still h e = record { within = h .within; standing = standing-still (h .standing) e }
@@ -43,8 +46,7 @@ parts-own {s} {c} {p} {slot} {at} {r} h = subst (λ (n : ℕ). IsParts s c p slo
 -- the header's checks behind the raw flag's
 abbrev pub behind-flag : List ℕ → Setting → Precinct → ℕ → ℕ → List Check
 behind-flag s c p slot at =
-    check Value (at + (1 + c .widths .dat + c .widths .cnt) / 8) Lsgn (head s c p slot at .lsgn) 0 (cond (c .fs) ample 0)
-    ∷ check Length (sigAt s c p slot at) Significance (p .end - sigAt s c p slot at) (Lsig s c p slot at) ample
+    check Length (sigAt s c p slot at) Significance (p .end - sigAt s c p slot at) (Lsig s c p slot at) ample
     ∷ check Length (cntAt s c p slot at) Counts (p .end - cntAt s c p slot at) (head s c p slot at .lcnt) ample
     ∷ []
 
@@ -52,7 +54,7 @@ module _ (s : List ℕ) (c : Setting) (p : Precinct) (slot at : ℕ) where
   -- ---- the places
 
   pub parts-are : {h : PacketHeader} {b n k g : ℕ} → h ≡ head s c p slot at → b ≡ headerBytes (c .widths)
-      → n ≡ marks s c p slot (eqb (h .dr) 1) (candidates (c .shape) slot) → k ≡ ceilDiv n 8 → g ≡ cond (c .fs) (h .lsgn) 0
+      → n ≡ marks s c p slot (eqb (h .dr) 1) (candidates (c .shape) slot) → k ≡ ceilDiv n 8 → g ≡ signLength c h
       → at + b + k + h .lcnt + h .ldat + g < 2 ^ 40
       → IsParts s c p slot at
       (record {
@@ -68,7 +70,7 @@ module _ (s : List ℕ) (c : Setting) (p : Precinct) (slot at : ℕ) where
   parts-are e eb en ek eg small =
       let flags = en ∙ ap (λ (h : PacketHeader). marks s c p slot (eqb (h .dr) 1) (candidates (c .shape) slot)) e in
       let inferred = ek ∙ ap (λ (n : ℕ). ceilDiv n 8) flags in
-      let signs = eg ∙ ap (λ (h : PacketHeader). cond (c .fs) (h .lsgn) 0) e in
+      let signs = eg ∙ ap (signLength c) e in
       record {
         place = refl;
         raw = (λ i. eqb (e i .dr) 1);
@@ -84,18 +86,17 @@ module _ (s : List ℕ) (c : Setting) (p : Precinct) (slot at : ℕ) where
 
   module _ {h : PacketHeader} {parts : Parts} (e : h ≡ head s c p slot at) (is : IsParts s c p slot at parts) where
     -- `flag` is C.3's rule as the code has it (`flags-table`)
-    pub head-table : (raws : List ℕ) {b lo hi most sig cnt : ℕ} {v : Verdict} → b ≡ headerBytes (c .widths) → lo ≡ boundFlag c slot raws 0 → hi ≡ boundFlag c slot raws 1
+    pub head-table : (raws : List ℕ) {b lo hi sig cnt : ℕ} {v : Verdict} → b ≡ headerBytes (c .widths) → lo ≡ boundFlag c slot raws 0 → hi ≡ boundFlag c slot raws 1
         → first (check Mode at Dr (head s c p slot at .dr) (boundFlag c slot raws 0) (boundFlag c slot raws 1) ∷ []) ≡ first (flagChecks s c p slot at raws)
-        → most ≡ cond (c .fs) ample 0 → sig ≡ p .end - parts .sig → cnt ≡ p .end - parts .cnt
+        → sig ≡ p .end - parts .sig → cnt ≡ p .end - parts .cnt
         → v ≡ first (
         check Length (p .at) Packet (p .end - at) b ample
         ∷ check Mode at Dr (h .dr) lo hi
-        ∷ check Value (at + (1 + c .widths .dat + c .widths .cnt) / 8) Lsgn (h .lsgn) 0 most
         ∷ check Length (parts .sig) Significance sig (parts .cnt - parts .sig) ample
         ∷ check Length (parts .cnt) Counts cnt (h .lcnt) ample
         ∷ [])
         → v ≡ first (headChecks s c p slot at raws)
-    head-table raws {v = v} eb lo hi flag most sig cnt f =
+    head-table raws {v = v} eb lo hi flag sig cnt f =
         let left = sig ∙ ap (λ (n : ℕ). p .end - n) (is .sig) in
         let rest = cnt ∙ ap (λ (n : ℕ). p .end - n) (is .cnt) in
         let long : parts .cnt - parts .sig ≡ Lsig s c p slot at = omega (arith, is .sig, is .cnt) in
@@ -105,7 +106,6 @@ module _ (s : List ℕ) (c : Setting) (p : Precinct) (slot at : ℕ) where
         f ∙ (λ i. first (
         check Length (p .at) Packet (p .end - at) (eb i) ample
         ∷ check Mode at Dr (e i .dr) (lo i) (hi i)
-        ∷ check Value (at + (1 + c .widths .dat + c .widths .cnt) / 8) Lsgn (e i .lsgn) 0 (most i)
         ∷ check Length (is .sig i) Significance (left i) (long i) ample
         ∷ check Length (is .cnt i) Counts (rest i) (e i .lcnt) ample
         ∷ []))
@@ -117,7 +117,7 @@ module _ (s : List ℕ) (c : Setting) (p : Precinct) (slot at : ℕ) where
       let header = check Length (p .at) Packet (p .end - at) (headerBytes (c .widths)) ample in
       let both = append-fine (header ∷ []) (flagChecks s c p slot at raws ++ behind-flag s c p slot at) e in
       let t = held (behind-flag s c p slot at) (append-fine (flagChecks s c p slot at raws) (behind-flag s c p slot at) (both .1) .1) in
-      omega (arith, held (header ∷ []) (both .0) .0 .least, t .1 .0 .least, t .1 .1 .0 .least)
+      omega (arith, held (header ∷ []) (both .0) .0 .least, t .0 .least, t .1 .0 .least)
 
   module _ {parts : Parts} (is : IsParts s c p slot at parts) where
     -- the lengths are the differences of the places

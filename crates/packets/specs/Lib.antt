@@ -8,3 +8,4 @@ pub mod Table
 pub mod Stored
 pub mod Walked
 pub mod Counted
+pub mod Leftover

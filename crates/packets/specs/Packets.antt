@@ -1,6 +1,6 @@
 -- C.3 and C.4: a packet, its header and its subpackets in their order. Each subpacket is judged whole before the next: does it run past the precinct,
 -- then its content. `slot` says which of its precinct's packets it is, `at` where its header stands.
-use Prim.Native.Nat.{ℕ, zero, suc, _+_, _-_, _/_}
+use Prim.Native.Nat.{ℕ, zero, suc, _+_, _-_}
 use mathlib.Core.Bool.{Bool, false, cond, _||_}
 use mathlib.Core.List.{List, [], _∷_, _++_}
 use lib.Dec.{eqb}
@@ -11,8 +11,8 @@ use Rattle.rows.specs.Rows.{check, ample, first, each}
 use Rattle.rows.specs.declared.Check.{Check}
 use Rattle.rows.specs.declared.Verdict.{Verdict}
 use Rattle.rows.specs.declared.Verdict.the-variants.{Fine, Refused}
-use Rattle.rows.specs.declared.Row.the-variants.{Value, Length, Count, Mode}
-use Rattle.rows.specs.declared.Field.the-variants.{Packet, Dr, Lsgn, Significance, Counts, Data, Signs}
+use Rattle.rows.specs.declared.Row.the-variants.{Length, Count, Mode}
+use Rattle.rows.specs.declared.Field.the-variants.{Packet, Dr, Significance, Counts, Data, Signs}
 use Rattle.bits.specs.Packet.{headerAt, headerBytes}
 use Rattle.bits.specs.declared.packet.PacketHeader.{PacketHeader}
 use Rattle.layout.specs.Slots.{candidates, sharing}
@@ -28,6 +28,10 @@ use Rattle.packets.specs.Passes.{line, marks, packetCounts, packetValues
 unfoldable pub anyLine : Setting → Precinct → ℕ → ℕ → Bool
 anyLine c p slot zero = false
 anyLine c p slot (suc n) = anyLine c p slot n || line c p slot n .present
+
+-- Table C.4, Lsgn[p,s]: 'Size of the sign subpacket in bytes if Fs = 1. If Fs = 0, this field shall be present, but is ignored.'
+abbrev pub signLength : Setting → PacketHeader → ℕ
+signLength c h = cond (c .fs) (h .lsgn) 0
 
 module _ (s : List ℕ) (c : Setting) (p : Precinct) (slot at : ℕ) where
   -- Table C.4
@@ -53,9 +57,8 @@ module _ (s : List ℕ) (c : Setting) (p : Precinct) (slot at : ℕ) where
   abbrev pub sgnAt : ℕ
   sgnAt = datAt + head .ldat
 
-  -- with Fs = 0 there is no sign subpacket
   abbrev pub Lsign : ℕ
-  Lsign = cond (c .fs) (head .lsgn) 0
+  Lsign = signLength c head
 
   abbrev pub past : ℕ
   past = sgnAt + Lsign
@@ -80,13 +83,13 @@ module _ (s : List ℕ) (c : Setting) (p : Precinct) (slot at : ℕ) where
       cond (c .rl) []
       (each slot (λ k. cond (sharing (c .shape) (p .row) slot k) (check Mode at Dr (head .dr) (getD raws k 0) (getD raws k 0) ∷ []) []))
 
-  -- the header, as far as the counts' length: 'a packet header runs past its precinct' and, of the subpackets, 'runs past its precinct' are 6
+  -- the header, as far as the counts' length: 'a packet header runs past its precinct' and, of the subpackets, 'runs past its precinct' are 6. Document 01's 3 for
+  -- a sign length with Fs = 0 is withdrawn (document 02, C-11)
   abbrev pub headChecks : List ℕ → List Check
   headChecks raws =
       check Length (p .at) Packet (p .end - at) (headerBytes (c .widths)) ample
       ∷ (flagChecks raws
-      ++ (check Value (at + (1 + c .widths .dat + c .widths .cnt) / 8) Lsgn (head .lsgn) 0 (cond (c .fs) ample 0)
-      ∷ check Length sigAt Significance (p .end - sigAt) Lsig ample
+      ++ (check Length sigAt Significance (p .end - sigAt) Lsig ample
       ∷ check Length cntAt Counts (p .end - cntAt) (head .lcnt) ample
       ∷ []))
 

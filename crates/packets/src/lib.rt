@@ -107,6 +107,7 @@ fn bound_flag(c: Setting, slot: usize, raws: [usize; 10], free: usize) -> usize
     raws[slot - 3]
 }
 
+// The places, by the lengths that the header declares. With Fs = 0 its sign length is ignored (Table C.4).
 fn parts_of(s: &[u8], c: Setting, p: Precinct, slot: usize, at: usize, h: PacketHeader) -> Parts
     requires { ⌜ Within (now s) c p slot × (at ≤ p .end) × IsHeader (now s) at (c .widths) h ⌝ }
     ensures { λ r. ⌜ IsParts (now (s .entry)) c p slot at r ⌝ }
@@ -138,8 +139,6 @@ fn open(s: &[u8], c: Setting, p: Precinct, slot: usize, at: usize, raws: [usize;
     let parts = parts_of(s, c, p, slot, at, h);
     let least = bound_flag(c, slot, raws, 0);
     let most = bound_flag(c, slot, raws, 1);
-    let signs = rows::choose(c.fs, AMPLE, 0);
-    let signs_at = at + (1 + widths.dat + widths.cnt) / 8;
     let bytes = widths.bytes();
     let end = p.end;
     let sig = parts.sig;
@@ -149,7 +148,6 @@ fn open(s: &[u8], c: Setting, p: Precinct, slot: usize, at: usize, raws: [usize;
     let v = rows::first([
         Check(Row::Length, p.at, Field::Packet, end - at, bytes, AMPLE),
         Check(Row::Mode, at, Field::Dr, h.dr, least, most),
-        Check(Row::Value, signs_at, Field::Lsgn, h.lsgn, 0, signs),
         Check(
             Row::Length,
             sig,
@@ -159,6 +157,7 @@ fn open(s: &[u8], c: Setting, p: Precinct, slot: usize, at: usize, raws: [usize;
             AMPLE,
         ),
         Check(Row::Length, cnt, Field::Counts, rest, h.lcnt, AMPLE),
+        HOLDS,
         HOLDS,
         HOLDS,
         HOLDS,

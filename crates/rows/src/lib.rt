@@ -88,7 +88,6 @@ pub enum Field {
     // a packet's header, and its subpackets
     Packet,
     Dr,
-    Lsgn,
     Significance,
     Counts,
     Data,

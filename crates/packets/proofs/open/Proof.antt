@@ -19,19 +19,16 @@ bound-flag-requires-2 c κs =
     let w = c .before .before .before .before .before .pre .0 .slotted in
     omega (arith, w .which, slots-most _ (w .settled .shape))
 
-bytes-requires : tie.Need-bytes-requires
-bytes-requires c κs = c .before .before .before .before .before .before .before .before .before .pre .0 .slotted .settled .widths
-
 returns : tie.Need-returns
 returns c =
-    let start = c .before .before .before .before .before .before .before .before .before .before .before .before .before in
+    let start = c .before .before .before .before .before .before .before .before .before .before in
     let a = start .args in
-    let header = c .before .before .before .before .before .before .before .before .before .before .read .ensures .header in
-    let parts = c .before .before .before .before .before .before .before .before .before .parts-of .ensures in
+    let header = c .before .before .before .before .before .before .before .read .ensures .header in
+    let parts = c .before .before .before .before .before .before .parts-of .ensures in
     let verdict =
     head-table (now (a .s)) (a .c) (a .p) (a .slot) (a .at) header parts (a .raws) (c .before .before .before .bytes .ensures)
-    (c .before .before .before .before .before .before .before .before .bound-flag .ensures) (c .before .before .before .before .before .before .before .bound-flag2 .ensures)
-    (flags-table (now (a .s)) (a .c) (a .p) (a .slot) (a .at) (start .pre .0 .slotted) (start .pre .2) (a .raws)) (c .before .before .before .before .before .before .choose .ensures)
+    (c .before .before .before .before .before .bound-flag .ensures) (c .before .before .before .before .bound-flag2 .ensures)
+    (flags-table (now (a .s)) (a .c) (a .p) (a .slot) (a .at) (start .pre .0 .slotted) (start .pre .2) (a .raws))
     (c .before .before .less .ensures) (c .before .less2 .ensures) (c .first .ensures) in
     record {
       verdict = verdict;
@@ -49,10 +46,6 @@ open-spec =
     bound-flag-requires
     bound-flag-requires-2
     (λ c κs. search needs)
-    (λ c. search needs)
-    (λ c. search needs)
-    (λ c. search needs)
-    bytes-requires
     (λ c κs. search needs)
     (λ c κs. search needs)
     (λ c. search needs)

@@ -3,7 +3,7 @@ use Prim.Native.Nat.{_+_, _<_, _^_}
 use native.Mathlib.Omega.{arith}
 use borrow.Author.Needs.{needs}
 use denote.Ref.{now}
-use Rattle.packets.proofs.Stretches.{chosen-most, parts-are}
+use Rattle.packets.proofs.Stretches.{signs-most, parts-are}
 use Rattle.packets.proofs.parts_of.Statement.{statement}
 use Rattle.packets.proofs.parts_of.Tie as tie
 
@@ -26,7 +26,7 @@ near c =
       pre .2 .cnt,
       pre .2 .dat,
       pre .2 .sgn,
-      chosen-most (a .c .fs) (a .h .lsgn),
+      signs-most (a .c) (a .h),
       c .choose .ensures,
       c .before .before .before .bytes-of-bits .ensures,
       c .before .before .before .before .all-marks .ensures .small,
