@@ -28,6 +28,7 @@ compare measured lossless 2000 2000
 compare measured lossy 1999 1501
 compare measured subsampled 2001 1999
 compare measured sheet 4000 3000
+compare measured uniform 1501 1999
 for seed in 1 2 3 4 5 6; do
     compare syntax $seed large
     compare picture $seed large

@@ -1,6 +1,6 @@
 #!/bin/sh
-# Times the library beside the independent decoder, both built for x86-64, on lossless, lossy, 4:2:0 and one-component pages of 1, 4 and 16 megapixels,
-# and prints a table. Usage: run.sh FOLDER [READINGS [SIDE...]], where tests/build.sh has put its programs. On Arm both run in one emulator: only the ratio says
+# Times the library beside the independent decoder, both built for x86-64, on lossless, lossy, 4:2:0, one-component and uniformly quantised pages of 1, 4 and 16
+# megapixels, and prints a table. Usage: run.sh FOLDER [READINGS [SIDE...]], where tests/build.sh has put its programs. On Arm both run in one emulator: only the ratio says
 # something there.
 set -eu
 bin=$(realpath "${1:?"usage: run.sh FOLDER [READINGS [SIDE...]]"}")
@@ -27,11 +27,11 @@ rust --crate-type staticlib --crate-name rival --extern independent tests/bench/
 $compile tests/bench/main.c "$archive" "$out/librival.a" $([ -n "$run" ] || echo -lpthread -ldl) -Wl,--no-warnings -o "$out/bench"
 
 for side in $sides; do
-    for name in lossless lossy subsampled sheet; do
+    for name in lossless lossy subsampled sheet uniform uniform-lossless; do
         "$bin/stream" measured $name $side $side >"$out/$name-$side"
     done
 done
 cd "$out"
 # The emulator takes the x86 instruction that fills memory byte by byte, which no processor does. So both sides fill memory as on processors without it.
 [ -z "$run" ] || run="$run -cpu max,-erms"
-$run ./bench "$readings" lossless-* lossy-* subsampled-* sheet-*
+$run ./bench "$readings" lossless-* lossy-* subsampled-* sheet-* uniform-*

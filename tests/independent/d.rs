@@ -66,4 +66,13 @@ mod tests {
             }
         }
     }
+
+    /// Sizes by Table D.2, worked out elsewhere, as lines `M T v size`.
+    #[test]
+    fn uniform_has_the_stored_sizes() {
+        for line in include_str!("../../crates/sizes/data/sizes.txt").lines() {
+            let numbers: Vec<i64> = line.split(' ').map(|word| word.parse().unwrap()).collect();
+            assert_eq!(uniform(numbers[2], numbers[0] as u32, numbers[1] as u32), numbers[3], "{}", line);
+        }
+    }
 }

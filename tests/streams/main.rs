@@ -2,8 +2,10 @@
 //!
 //! Usage: `stream KIND SEED [large]`, KIND being syntax, picture, coefficients, damaged, bounds, foreign
 //! or header; or
-//! `stream measured NAME WIDTH HEIGHT`, NAME being lossless, lossy, subsampled or sheet.
+//! `stream measured NAME WIDTH HEIGHT`, NAME being lossless, lossy, subsampled, sheet,
+//! uniform or uniform-lossless.
 
+use independent::a::Header;
 use std::env;
 use std::io::{self, Write};
 use std::process::ExitCode;
@@ -44,6 +46,8 @@ fn measured_page(name: &str, width: &str, height: &str) -> Option<Vec<u8>> {
         "lossy" => (setting::measured(width, height, false, &[(1, 1); 3]), 5),
         "subsampled" => (setting::measured(width, height, false, &[(1, 1), (2, 2), (2, 2)]), 5),
         "sheet" => (setting::measured(width, height, true, &[(1, 1)]), 0),
+        "uniform" => (Header { qpih: 1, ..setting::measured(width, height, false, &[(1, 1); 3]) }, 5),
+        "uniform-lossless" => (Header { qpih: 1, ..setting::measured(width, height, true, &[(1, 1); 3]) }, 0),
         _ => return None,
     };
     Some(measured(&header, max_q, 1))

@@ -1,6 +1,6 @@
 -- The quantisers over sizes: a size below 2 ^ max(M, T) comes back at most 2 ^ T - 1 away, its index has M - T planes, and what an index of M - T
 -- planes gives is below 2 ^ M. Assumes nothing.
-use mathlib.Core.Path.{_≡_, sym, ap, _∙_, subst}
+use mathlib.Core.Path.{_≡_, sym, ap, ap₂, _∙_, subst}
 use mathlib.Core.Bool.{Bool, true, false, and-false}
 use Prim.Native.Nat.{ℕ, zero, suc, _+_, _-_, _*_, _/_, _%_, _^_, _≤_, _<_, max}
 use native.Mathlib.Nat.{le-refl, le-of-lt, lt-of-not-le, lt-of-lt-of-le, zero-lt-suc, not-suc-le-zero, max-eq-left, max-eq-right, sub-zero, sub-add-cancel, pow-suc}
@@ -14,6 +14,7 @@ use lib.Arith.{digits-div, lt-one}
 use lib.Pow.{pow-pos, pow-mono, pow-add, suc-ones, shr-lt}
 use Rattle.whole.specs.Numbers.{Near}
 use Rattle.quantiser.specs.Inverse.{deadzone, series, uniform, inverse}
+use Rattle.quantiser.specs.Note.{byBuckets, Agree}
 use Rattle.quantiser.specs.Forward.{deadzoneIndex, uniformIndex, forward}
 use Rattle.quantiser.proofs.Sum.{series-zero, series-divided}
 
@@ -46,7 +47,7 @@ pub deadzone-on : (M T v : ℕ) → T < M → 0 < v → deadzone M T v ≡ v * 2
 unfolding deadzone
 deadzone-on M T v h g = rw (lt-ltb T M h, ne-eqb v 0 (λ e. omega arith))
 
-pub uniform-on : (M T v : ℕ) → T < M → uniform M T v ≡ series (2 ^ (M - T + 1)) (v * 2 ^ T)
+uniform-on : (M T v : ℕ) → T < M → uniform M T v ≡ series (2 ^ (M - T + 1)) (v * 2 ^ T)
 unfolding uniform
 uniform-on M T zero h = uniform-zero M T ∙ sym (ap (series (2 ^ (M - T + 1))) (zero-mul (2 ^ T)) ∙ series-zero (2 ^ (M - T + 1)))
 uniform-on M T (suc v) h = rw (lt-ltb T M h, ne-eqb (suc v) 0 (λ e. omega arith))
@@ -143,14 +144,15 @@ summed M T v h hv =
       below = w .below;
     }
 
--- D.3's note: the repeated sum is v times the bucket size 2 ^ (M + 1) / (2 ^ (M - T + 1) - 1), rounded down
-pub uniform-division : (M T v : ℕ) → T < M → v < 2 ^ (M - T) → uniform M T v ≡ v * 2 ^ (M + 1) / (2 ^ (M - T + 1) - 1)
+-- Document 02, C-14: 'the two agree for all M above T and v below 2^(M-T)'
+pub uniform-division : (M T v : ℕ) → T < M → v < 2 ^ (M - T) → Agree M T v
 uniform-division M T v h hv =
     let k = coded M T h in
     let w = summed M T v h hv in
-    sym (ap (λ (x : ℕ). v * 2 ^ (M + 1) / x) (omega (arith, k .base)) ∙ ap (λ (x : ℕ). x / k .c) (sym (w .sum)) ∙ digits-div (uniform M T v) (w .below))
+    let size : uniform M T v ≡ byBuckets M T v = sym (digits-div (uniform M T v) (w .below)) ∙ ap₂ _/_ (omega (arith, w .sum)) (omega (arith, k .base)) in
+    record { sum = sym (uniform-on M T v h) ∙ size; size = size }
 
-pub uniform-small : (M T v : ℕ) → T < M → v < 2 ^ (M - T) → uniform M T v < 2 ^ M
+uniform-small : (M T v : ℕ) → T < M → v < 2 ^ (M - T) → uniform M T v < 2 ^ M
 uniform-small M T v h hv = let w = summed M T v h hv in sum-below (coded M T h) v (uniform M T v) (w .rest) hv (w .sum)
 
 -- ---- D.5, and D.3 after it

@@ -32,7 +32,7 @@ pub series-zero : (b : ℕ) → series b 0 ≡ 0
 unfolding series terms
 series-zero b = refl
 
-pub series-step : (b n : ℕ) → 1 < b → series b n ≡ n + series b (n / b)
+series-step : (b n : ℕ) → 1 < b → series b n ≡ n + series b (n / b)
 unfolding series terms
 series-step b zero hb = rw zero-div
 series-step b (suc n) hb = ap (λ (x : ℕ). suc n + x) (enough n (suc n / b) b (suc n / b) hb (smaller b n n hb (le-refl (suc n))) (le-refl (suc n / b)))

@@ -17,7 +17,7 @@ fn deadzone_size(m: u64, t: u64, v: u64) -> u64
     (v << t) + ((1 << t) >> 1)
 }
 
-// D.3, by the sum of Table D.2.
+// D.3 by its NOTE: v times 2^(M+1) / (2^(M+1−T) − 1), rounded down once. Table D.2's sum is the same (specs/Note). Where v is not 0, m is above t.
 fn uniform_size(m: u64, t: u64, v: u64) -> u64
     requires { ⌜ Carried m t v ⌝ }
     ensures { λ r. ⌜ r ≡ uniform m t v ⌝ }
@@ -25,14 +25,7 @@ fn uniform_size(m: u64, t: u64, v: u64) -> u64
     if v == 0 {
         return 0;
     }
-    let z = m - t + 1;
-    let mut term = v << t;
-    let mut sum: u64 = 0;
-    while term > 0 {
-        sum += term;
-        term = term >> z;
-    }
-    sum
+    (v << (m + 1)) / ((1 << (m - t + 1)) - 1)
 }
 
 // The size of a coefficient, by the quantiser that the picture header chooses: `uniform` where Qpih is 1.
