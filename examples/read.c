@@ -60,7 +60,7 @@ static uint8_t *contents(const char *name, size_t *size)
     return bytes;
 }
 
-static void print_record(const struct pitchladle_page *page, const struct pitchladle_part *caption)
+static void print_record(const struct pitchladle_page *page)
 {
     printf("answer %llu at %llu\n", (unsigned long long)page->answer, (unsigned long long)page->place);
     if (page->answer != 0) {
@@ -72,8 +72,7 @@ static void print_record(const struct pitchladle_page *page, const struct pitchl
         printf("component %llu width %llu height %llu precision %llu distance %llu\n", (unsigned long long)i, (unsigned long long)c->width,
                (unsigned long long)c->height, (unsigned long long)c->precision, (unsigned long long)c->distance);
     }
-    if (page->caption)
-        printf("caption of %llu bytes at %llu\n", (unsigned long long)caption->size, (unsigned long long)caption->place);
+    printf("caption %s\n", page->caption ? "yes" : "no");
 }
 
 /* `count` components of one size and precision, from component `first` on, whose samples begin at `samples`. */
@@ -140,10 +139,8 @@ int main(int count, char **words)
         return FAILED;
     }
     struct pitchladle_page page;
-    struct pitchladle_part caption;
     pitchladle_read(stream, size, samples, cells, work, 2 * cells, &page);
-    pitchladle_caption(stream, size, &caption);
-    print_record(&page, &caption);
+    print_record(&page);
     int status = page.answer != 0 ? REFUSED : count == 3 ? write_pictures(words[2], &page, samples) : READ;
     free(stream);
     free(samples);

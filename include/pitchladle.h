@@ -4,10 +4,10 @@
  * statements. It keeps no state, asks for no memory, and writes to nothing but the buffers that it is lent.
  *
  * What the caller must see to, and nothing else does:
- *   - a pointer is valid for as many cells as the count behind it says, `page` and `part` for one struct, and aligned for its type; it is not null, even
- *     where the count is 0;
+ *   - a pointer is valid for as many cells as the count behind it says, `page` for one struct, and aligned for its type; it is not null, even where the
+ *     count is 0;
  *   - the buffers of one call do not overlap; during the call no other thread writes to any of them, or reads those that the call writes to: samples, work cells
- *     and record or part;
+ *     and record;
  *   - the program is one for x86-64, linked with libpitchladle.a. */
 #ifndef PITCHLADLE_H
 #define PITCHLADLE_H
@@ -38,17 +38,13 @@ struct pitchladle_component {
     uint64_t width, height, precision, distance;
 };
 
-/* The page record. Of a page that is refused all is 0 but answer and place. */
+/* The page record. Of a page that is refused all is 0 but answer and place. A bench caption is an extension segment of type 0x8B01 before the first slice header,
+ * if only an empty one; the record tells that one is there, and nothing of what it says. */
 struct pitchladle_page {
     uint64_t answer, place;
     uint64_t components;                      /* 1 to 4 */
-    uint64_t caption;                         /* 1 where the stream has a bench caption, if only an empty one; else 0 */
+    uint64_t caption;                         /* 1 where a bench caption is there, else 0 */
     struct pitchladle_component component[4]; /* 0 from `components` on */
-};
-
-/* A part of the stream. */
-struct pitchladle_part {
-    uint64_t place, size;
 };
 
 /* Reads a page. With N as pitchladle_needs says, it takes N sample cells and 2 N work cells; more may be lent, and with fewer the answer is 5.
@@ -63,10 +59,6 @@ void pitchladle_read(const uint8_t *stream, size_t stream_bytes, uint16_t *sampl
 /* How many samples the page has: the sum of width times height over its components, at most 2^30. 0 where the stream is refused before its first
  * slice; any other page may still be refused later. */
 uint64_t pitchladle_needs(const uint8_t *stream, size_t stream_bytes);
-
-/* Where the bench caption stands, without its header. Place and size are both 0 where there is none, or the stream is refused before its first
- * slice; the part always lies in the stream. */
-void pitchladle_caption(const uint8_t *stream, size_t stream_bytes, struct pitchladle_part *part);
 
 #ifdef __cplusplus
 }

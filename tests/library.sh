@@ -1,6 +1,7 @@
 #!/bin/sh
 # Reads generated pages, some of several megapixels, with the C example over the static library, and compares answers, distances and samples with the
-# independent decoder's. Usage: library.sh FOLDER, where tests/build.sh has put its programs. Stops at the first difference.
+# independent decoder's; then what the record says of a caption with stored answers. Usage: library.sh FOLDER, where tests/build.sh has put its programs.
+# Stops at the first difference.
 set -eu
 bin=$(realpath "${1:?"usage: library.sh FOLDER"}")
 cd "$(dirname "$0")/.."
@@ -35,3 +36,20 @@ for seed in 1 2 3 4 5 6; do
     compare damaged $seed large
 done
 compare foreign 1
+
+# caption NAME: the record's yes or no crosses to C as NAME.caption has it. Of a refused page the example says nothing but why
+caption() {
+    status=0
+    $run "$out/read" "$1.jxs" >"$out/record" || status=$?
+    [ "$status" -le 1 ] || { echo "$1: the example ended with status $status"; exit 1; }
+    head -n 1 "$1.txt" >"$out/wanted"
+    [ "$status" -eq 1 ] || cat "$1.caption" >>"$out/wanted"
+    sed -n '1p; /^caption/p' "$out/record" | cmp -s - "$out/wanted" || { echo "$1: not $(paste -s -d ' ' "$out/wanted")"; exit 1; }
+}
+
+told=0
+for stream in crates/vectors/data/C-13/*.jxs; do
+    caption "${stream%.jxs}"
+    told=$((told + 1))
+done
+echo "$told streams of C-13: answer and caption as stored"

@@ -4,7 +4,6 @@
 
 use super::b;
 use super::{require, Refusal, Row};
-use std::ops::Range;
 
 // Table A.2.
 const SOC: u16 = 0xff10;
@@ -67,8 +66,8 @@ pub struct Header {
     pub cdt: Vec<CdtEntry>,
     /// One entry for each existing band, in the order of band indices; empty until the weights table is read.
     pub wgt: Vec<Weight>,
-    /// Where the first bench caption's bytes stand.
-    pub caption: Option<Range<usize>>,
+    /// Whether a bench caption is there, empty or not.
+    pub caption: bool,
     /// The offset of the first slice marker.
     pub first_slice: usize,
 }
@@ -95,7 +94,7 @@ impl Header {
             rm: false,
             cdt: sampling.iter().map(|&(sx, sy)| CdtEntry { b: 8, sx, sy }).collect(),
             wgt: Vec::new(),
-            caption: None,
+            caption: false,
             first_slice: 0,
         }
     }
@@ -221,7 +220,7 @@ fn picture_header(s: &[u8], at: usize) -> Result<Header, Refusal> {
         rm: rm == 1,
         cdt: Vec::new(),
         wgt: Vec::new(),
-        caption: None,
+        caption: false,
         first_slice: 0,
     })
 }
@@ -329,15 +328,14 @@ fn weights_table(s: &[u8], at: usize, header: &mut Header) -> Result<usize, Refu
     Ok(length)
 }
 
-/// An extension (A.4.11, Tables A.23 and A.24), from its length field on. The first caption counts.
+/// An extension (A.4.11, Tables A.23 and A.24), from its length field on. A bench caption is skipped as any vendor
+/// extension; the header only tells that one is there, so that nobody thinks a scan never had one (C-13).
 fn extension(s: &[u8], at: usize, header: &mut Header) -> Result<usize, Refusal> {
     let length = segment_length(s, at)?;
     require(length >= 4, Row::Value, at)?;
     let kind = u16_at(s, at + 2);
     require(kind <= 1 || kind >= 0x8000, Row::Value, at + 2)?;
-    if kind == CAPTION && header.caption.is_none() {
-        header.caption = Some(at + 4..at + length);
-    }
+    header.caption |= kind == CAPTION;
     Ok(length)
 }
 

@@ -55,6 +55,7 @@ pub struct Component {
 #[derive(Debug, PartialEq, Eq)]
 pub struct Page {
     pub components: Vec<Component>,
+    /// Whether a bench caption stands before the first slice header.
     pub caption: bool,
 }
 
@@ -74,7 +75,7 @@ pub fn read(s: &[u8], room: usize) -> Result<Page, Refusal> {
         distance,
         samples,
     });
-    Ok(Page { components: components.collect(), caption: header.caption.is_some() })
+    Ok(Page { components: components.collect(), caption: header.caption })
 }
 
 /// The samples of each component from its coefficients, multiplied by 2^Fq (Annexes E to G).
@@ -89,10 +90,83 @@ pub fn reconstruct(header: &a::Header, layout: &b::Layout, mut planes: Vec<e::Pl
     outputs.map(|(plane, entry)| g::output(&plane.cells, header.bw, entry.b)).collect()
 }
 
-/// The bench caption: the stream's own bytes; empty when there is none or the header is refused.
-pub fn caption(s: &[u8]) -> &[u8] {
-    match a::header(s) {
-        Ok(header) => header.caption.map_or(&s[..0], |part| &s[part]),
-        Err(_) => &[],
+#[cfg(test)]
+mod tests {
+    use super::*;
+
+    /// Streams of C-13 by name, with what the record says of a caption.
+    macro_rules! stored {
+        ($($name:literal)*) => {
+            [$((
+                $name,
+                include_bytes!(concat!("../../crates/vectors/data/C-13/k1301_", $name, ".jxs")),
+                include_str!(concat!("../../crates/vectors/data/C-13/k1301_", $name, ".caption")),
+            )),*]
+        };
+    }
+
+    const STORED: [(&str, &[u8], &str); 40] = stored! {
+        "000_one" "001_empty" "002_twice" "003_other" "004_behind_other"
+        "005_none" "006_short" "007_long" "008_refused" "009_reserved"
+        "010_one" "011_empty" "012_twice" "013_other" "014_behind_other"
+        "015_none" "016_short" "017_long" "018_refused" "019_reserved"
+        "020_one" "021_empty" "022_twice" "023_other" "024_behind_other"
+        "025_none" "026_short" "027_long" "028_refused" "029_reserved"
+        "030_one" "031_empty" "032_twice" "033_other" "034_behind_other"
+        "035_none" "036_short" "037_long" "038_refused" "039_reserved"
+    };
+
+    /// A refusal's record says no.
+    #[test]
+    fn captions_are_told_as_stored() {
+        for (name, s, line) in STORED {
+            let told = read(s, usize::MAX).map_or(false, |page| page.caption);
+            assert_eq!(if told { "caption yes\n" } else { "caption no\n" }, line, "{}", name);
+        }
+    }
+
+    /// What the record says of a caption when these extensions, each a type and data, are put into a page that has none:
+    /// behind its picture header, its component table or its weights table. They change nothing else.
+    fn told(extensions: &[(u16, &[u8])]) -> [bool; 3] {
+        let (_, plain, _) = STORED[5];
+        let page = read(plain, usize::MAX).unwrap();
+        [34, 42, 62].map(|at| {
+            let mut s = plain[..at].to_vec();
+            for (kind, data) in extensions {
+                let length = 4 + data.len() as u16;
+                s.extend([0xff15, length, *kind].into_iter().flat_map(u16::to_be_bytes));
+                s.extend(*data);
+            }
+            s.extend(&plain[at..]);
+            let lcod = s.len() as u32;
+            s[10..14].copy_from_slice(&lcod.to_be_bytes());
+            let changed = read(&s, usize::MAX).unwrap();
+            assert_eq!(changed.components, page.components);
+            changed.caption
+        })
+    }
+
+    #[test]
+    fn other_extensions_are_no_captions() {
+        assert_eq!(told(&[]), [false; 3]);
+        for kind in [0x0000, 0x0001, 0x8000, 0x8b00, 0x8b02, 0xffff] {
+            assert_eq!(told(&[(kind, &[])]), [false; 3]);
+            assert_eq!(told(&[(kind, &[0xff, 0x15, 0x00, 0x04, 0x8b, 0x01])]), [false; 3]);
+        }
+    }
+
+    #[test]
+    fn a_caption_is_told_whatever_it_holds() {
+        for data in [&[][..], &[0], &[0xff, 0x20, 0x00, 0x04], &[0x8b; 300]] {
+            assert_eq!(told(&[(0x8b01, data)]), [true; 3]);
+        }
+    }
+
+    #[test]
+    fn a_caption_is_told_among_others() {
+        for kind in [0x0000, 0x0001, 0x8000, 0x8b01, 0x8b02, 0xffff] {
+            assert_eq!(told(&[(0x8b01, &[1]), (kind, &[2, 3])]), [true; 3]);
+            assert_eq!(told(&[(kind, &[2, 3]), (0x8b01, &[])]), [true; 3]);
+        }
     }
 }

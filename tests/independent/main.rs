@@ -1,13 +1,13 @@
 //! Reads a codestream from standard input and prints what document 01's page program prints.
 //!
-//! Usage: `page [--any] [--caption | --layout | --pictures NAME | --time N]`. `--any` lifts the page program's limits.
-//! Instead of the page, `--caption` prints the caption's bytes, `--layout` where the header puts bands, precincts, packets
-//! and lines, and `--time` the shortest time of N readings. `--pictures` writes the samples to files and prints the answer.
+//! Usage: `page [--any] [--layout | --pictures NAME | --time N]`. `--any` lifts the page program's limits.
+//! Instead of the page, `--layout` prints where the header puts bands, precincts, packets and lines, and `--time` the
+//! shortest time of N readings. `--pictures` writes the samples to files and prints the answer.
 
 mod layout;
 mod pictures;
 
-use independent::{caption, read, Page, Refusal};
+use independent::{read, Page, Refusal};
 use std::env;
 use std::io::{self, BufWriter, Read, Write};
 use std::process::ExitCode;
@@ -19,7 +19,6 @@ const MAX_SAMPLES: usize = 2_048;
 
 enum Wanted {
     Page,
-    Caption,
     Layout,
     Pictures(String),
     Time(usize),
@@ -29,7 +28,7 @@ fn main() -> ExitCode {
     let (any, wanted) = match options() {
         Some(options) => options,
         None => {
-            eprintln!("usage: page [--any] [--caption | --layout | --pictures NAME | --time N] < STREAM");
+            eprintln!("usage: page [--any] [--layout | --pictures NAME | --time N] < STREAM");
             return ExitCode::from(2);
         }
     };
@@ -48,7 +47,6 @@ fn options() -> Option<(bool, Wanted)> {
     while let Some(word) = words.next() {
         match word.as_str() {
             "--any" => any = true,
-            "--caption" => wanted = Wanted::Caption,
             "--layout" => wanted = Wanted::Layout,
             "--pictures" => wanted = Wanted::Pictures(words.next()?),
             "--time" => wanted = Wanted::Time(words.next()?.parse().ok()?),
@@ -66,7 +64,6 @@ fn run(any: bool, wanted: Wanted) -> io::Result<()> {
     match wanted {
         _ if !any && stream.len() > MAX_BYTES => writeln!(out, "input too long")?,
         Wanted::Page => print_answer(&mut out, read(&stream, room), stream.len())?,
-        Wanted::Caption => out.write_all(caption(&stream))?,
         Wanted::Layout => layout::print(&mut out, &stream)?,
         Wanted::Pictures(name) => match read(&stream, room) {
             Ok(page) => {

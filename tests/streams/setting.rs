@@ -127,7 +127,7 @@ fn fields(rng: &mut Rng, limits: Limits) -> Header {
         rm: rng.once_in(2),
         cdt,
         wgt: Vec::new(),
-        caption: None,
+        caption: false,
         first_slice: 0,
     }
 }

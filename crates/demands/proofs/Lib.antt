@@ -8,3 +8,4 @@ pub mod Colours
 pub mod Three
 pub mod Exact
 pub mod Walked
+pub mod Caption

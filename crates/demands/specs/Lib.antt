@@ -4,3 +4,4 @@ pub mod Table
 pub mod Uncut
 pub mod Places
 pub mod Demands
+pub mod Caption

@@ -4,7 +4,6 @@ use mathlib.Core.Bool.{true}
 use mathlib.Core.List.{List}
 use mathlib.Core.Path.{_≡_, refl, sym, subst, _∙_}
 use native.Mathlib.Omega.{arith}
-use borrow.Author.Tests.{ne-eqb}
 use Rattle.rows.specs.Rows.{first}
 use Rattle.rows.specs.declared.Verdict.{Verdict}
 use Rattle.rows.specs.declared.Verdict.the-variants.{Fine}
@@ -14,13 +13,12 @@ use Rattle.picture.specs.Picture.{pictureAt}
 use Rattle.picture.proofs.Laws.{opened}
 use Rattle.header.specs.Accepted.{Accepted}
 use Rattle.header.specs.Header.{four, componentOf, weightsOf, headerIn, walkBy, headerBy, walkOf, readingOf}
-use Rattle.header.specs.Occurrence.{segmentPlace, Marked, IsCaption, AtMostOne, Captioned, absent, earliest, Occurs}
-use Rattle.header.specs.Turns.{walk, Inside}
-use Rattle.header.specs.Walk.{captionOf}
+use Rattle.header.specs.Occurrence.{Marked, AtMostOne, Occurs}
+use Rattle.header.specs.Turns.{walk}
 use Rattle.header.specs.declared.walk.Walk.{Walk}
-use Rattle.header.proofs.Chain.{Once, unseen, seen, Earliest, unnoted, noted, Chain, place-positive, once-one, walk-chain}
+use Rattle.header.proofs.Chain.{Once, unseen, seen, Chain, once-one, walk-chain}
 use Rattle.header.proofs.Ranges.{sampled-at, columns-at, gains-at}
-use Rattle.header.proofs.Sound.{End, Sound, walk-done, walk-sound, walk-inside}
+use Rattle.header.proofs.Sound.{End, Sound, walk-done, walk-sound}
 use Rattle.header.proofs.Whole.{opening-fine}
 
 -- ---- which segments stand there
@@ -29,10 +27,6 @@ module _ (s : List ℕ) (n p : ℕ) where
   at-most-one : (P : ℕ → Type 0) → Once s P n p → AtMostOne P n
   at-most-one P (unseen e h) j k l m a b = absurd (h j l a)
   at-most-one P (seen i o e) j k l m a b = o .only j l a ∙ sym (o .only k m b)
-
-  captioned : Earliest s (IsCaption s) n p → Captioned s n (captionOf s p)
-  captioned (unnoted e h) = absent h (λ i. captionOf s (e i))
-  captioned (noted k f e) = earliest k f ((λ i. captionOf s (e i)) ∙ rw (ne-eqb (segmentPlace s k) 0 (place-positive s k)))
 
 occurs : (s : List ℕ) (w : Walk) → Chain s (w .at) (w .seen) → End s w → Occurs s (headerIn s (pictureAt s (picturePlace s)) (w .seen) (w .at))
 occurs s w c e =
@@ -59,15 +53,15 @@ occurs s w c e =
       sy = λ i. four (λ k. componentOf s h (t .2 i) k .sy);
       gains = λ i. weightsOf s h (t .2 i) (u .2 i) .gains;
       priorities = λ i. weightsOf s h (t .2 i) (u .2 i) .priorities;
-      caption = captioned s n (w .seen .caption) (c .caption);
+      caption = c .caption;
     }
 
 -- ---- the header
 
 module _ (s : List ℕ) (o : Opened s (pictureAt s (picturePlace s)) (picturePlace s)) where
-  header-in : (w : Walk) → Sound s (pictureAt s (picturePlace s)) w → Inside s w → Chain s (w .at) (w .seen) → End s w
+  header-in : (w : Walk) → Sound s (pictureAt s (picturePlace s)) w → Chain s (w .at) (w .seen) → End s w
       → Accepted s (headerIn s (pictureAt s (picturePlace s)) (w .seen) (w .at))
-  header-in w i j c e =
+  header-in w i c e =
       let h = pictureAt s (picturePlace s) in
       let x = w .seen in
       let t = i .table (e .cdt) in
@@ -77,7 +71,6 @@ module _ (s : List ℕ) (o : Opened s (pictureAt s (picturePlace s)) (picturePla
         whole = o .whole;
         short = o .short;
         slice = e .slice;
-        caption = j .part;
       }
 
 -- a stream that is accepted up to and with its first slice marker
@@ -90,7 +83,6 @@ accepted-header s e =
     let o = opened s v in
     let same : walkOf s ≡ walk s h (p + 28) = λ i. walkBy (v i) s h p in
     let i = subst (Sound s h) (sym same) (walk-sound s h (p + 28)) in
-    let j = subst (Inside s) (sym same) (walk-inside s h (p + 28) (o .behind)) in
     let c = subst (λ (w : Walk). Chain s (w .at) (w .seen)) (sym same) (walk-chain s h) in
     let d : walkOf s .done ≡ true = (λ k. same k .done) ∙ walk-done s h (p + 28) in
-    subst (λ (v : Verdict). Accepted s (headerBy v s h (walkOf s))) (sym e) (header-in s o (walkOf s) i j c (i .end d e))
+    subst (λ (v : Verdict). Accepted s (headerBy v s h (walkOf s))) (sym e) (header-in s o (walkOf s) i c (i .end d e))

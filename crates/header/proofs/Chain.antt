@@ -1,9 +1,9 @@
 -- What the walk has seen, said of the segments that it has passed: the places that it knows are those of the segments with their markers. Assumes nothing.
-use Prim.Native.Nat.{ℕ, zero, suc, _+_, _<_}
-use mathlib.Core.Bool.{Bool, true, false, _&&_, cond}
+use Prim.Native.Nat.{ℕ, zero, suc, _+_, _≤_, _<_}
+use mathlib.Core.Bool.{Bool, true, false}
 use mathlib.Core.List.{List}
-use mathlib.Core.Logic.{_⊎_, inl, inr}
-use mathlib.Core.Path.{_≡_, refl, sym, _∙_}
+use mathlib.Core.Logic.{_⊎_, inl, inr, _↔_}
+use mathlib.Core.Path.{_≡_, refl, sym, subst, _∙_}
 use native.Mathlib.Decide.{decLt}
 use native.Mathlib.Omega.{arith}
 use borrow.Author.Tests.{eqb-true, eqb-false}
@@ -20,14 +20,19 @@ use Rattle.segments.specs.Segments.{kindOf, typeAt, noneSeen, headChecks, check
 use Rattle.segments.specs.declared.kinds.Kind.{Kind}
 use Rattle.segments.specs.declared.kinds.Kind.the-variants.{Components, Weights, Extension, Undecomposed, Registration, Unbuilt, Slice, Predicted, Unknown}
 use Rattle.segments.specs.declared.seen.Seen.{Seen}
-use Rattle.header.specs.Occurrence.{segmentPlace, Marked, IsCaption, Only, None, First}
-use Rattle.header.specs.Walk.{ended, isCaption, noneYet, accepted, judged, step}
+use Rattle.header.specs.Occurrence.{segmentPlace, Marked, IsCaption, Only, StandsBefore}
+use Rattle.header.specs.Walk.{ended, isCaption, accepted, judged, step}
 use Rattle.header.specs.Turns.{walk}
 use Rattle.header.specs.declared.walk.Walk.{Walk}
 use Rattle.segments.proofs.Codes.{Coded, coded}
+use Rattle.header.proofs.Steps.{clash}
 use Rattle.header.proofs.Sound.{not-counted, is-counted, walk-keeps-or}
 
 -- ---- the first n segments, and one more
+
+-- none of them is such
+abbrev None : (ℕ → Type 0) → ℕ → Type 0
+None P n = (k : ℕ) → k < n → P k → ⊥
 
 module _ (P : ℕ → Type 0) (n : ℕ) where
   none-more : None P n → (P n → ⊥) → None P (suc n)
@@ -55,12 +60,6 @@ module _ (P : ℕ → Type 0) (n : ℕ) where
           let q : j ≡ n = omega arith in
           absurd (not (rw q at i))
 
-  first-new : None P n → P n → First P (suc n) n
-  first-new h is = record { before = omega arith; is = is; first = h }
-
-  first-more : {k : ℕ} → First P n k → First P (suc n) k
-  first-more f = record { before = omega (arith, f .before); is = f .is; first = f .first }
-
 -- ---- a place that is known
 
 -- of the only segment of which P holds, or 0
@@ -68,13 +67,8 @@ pub data Once (s : List ℕ) (P : ℕ → Type 0) (n p : ℕ) : Type 0 where
   unseen : p ≡ 0 → None P n → Once s P n p
   seen : (k : ℕ) → Only P n k → p ≡ segmentPlace s k → Once s P n p
 
--- of the first
-pub data Earliest (s : List ℕ) (P : ℕ → Type 0) (n p : ℕ) : Type 0 where
-  unnoted : p ≡ 0 → None P n → Earliest s P n p
-  noted : (k : ℕ) → First P n k → p ≡ segmentPlace s k → Earliest s P n p
-
 -- a segment's place is not 0: the codestream's start stands there
-pub place-positive : (s : List ℕ) (k : ℕ) → segmentPlace s k ≡ 0 → ⊥
+place-positive : (s : List ℕ) (k : ℕ) → segmentPlace s k ≡ 0 → ⊥
 unfolding segmentPlace
 place-positive s zero e = omega arith
 place-positive s (suc k) e = omega arith
@@ -92,24 +86,57 @@ module _ (s : List ℕ) (P : ℕ → Type 0) (n : ℕ) where
   once-more (unseen e h) not = unseen e (none-more P n h not)
   once-more (seen k o e) not = seen k (only-more P n o not) e
 
-  earliest-more : {p : ℕ} → Earliest s P n p → (P n → ⊥) → Earliest s P (suc n) p
-  earliest-more (unnoted e h) not = unnoted e (none-more P n h not)
-  earliest-more (noted k f e) not = noted k (first-more P n f) e
+-- ---- a yes or no
 
-  earliest-none : {p : ℕ} → Earliest s P n p → p ≡ 0 → None P n
-  earliest-none (unnoted e h) z = h
-  earliest-none (noted k f e) z = absurd (place-positive s k (sym e ∙ z))
+-- segments stand one behind the other
+place-further : (s : List ℕ) (k : ℕ) → segmentPlace s k < segmentPlace s (suc k)
+unfolding segmentPlace
+place-further s k = omega arith
 
-  earliest-stays : {p : ℕ} → Earliest s P n p → (p ≡ 0 → ⊥) → Earliest s P (suc n) p
-  earliest-stays (unnoted e h) not = absurd (not e)
-  earliest-stays (noted k f e) not = noted k (first-more P n f) e
+places-rise : (s : List ℕ) (k n : ℕ) → k ≤ n → segmentPlace s k ≤ segmentPlace s n
+places-rise s k zero l =
+    let q : k ≡ 0 = omega arith in
+    rw q (omega arith)
+places-rise s k (suc n) l = pick (decLt k (suc n)) (places-rise s k n)
+  where
+    pick : Dec (k < suc n) → (k ≤ n → segmentPlace s k ≤ segmentPlace s n) → segmentPlace s k ≤ segmentPlace s (suc n)
+    pick (yes m) rises = omega (arith, rises (omega arith), place-further s n)
+    pick (no m) rises =
+        let q : k ≡ suc n = omega arith in
+        rw q (omega arith)
 
-  -- the next, at q: t tells whether it is such, u whether none was
-  earliest-by : (t u : Bool) {p q : ℕ} → Earliest s P n p → q ≡ segmentPlace s n → (t ≡ true → P n) → (t ≡ false → P n → ⊥) → (u ≡ true → p ≡ 0) → (u ≡ false → p ≡ 0 → ⊥)
-      → Earliest s P (suc n) (cond (t && u) q p)
-  earliest-by false u c here is not none some = earliest-more c (not refl)
-  earliest-by true true c here is not none some = noted n (first-new P n (earliest-none c (none refl)) (is refl)) here
-  earliest-by true false c here is not none some = earliest-stays c (some refl)
+-- t is a yes exactly where one of which P holds stands before a place
+abbrev Told : List ℕ → (ℕ → Type 0) → ℕ → Bool → Type 0
+Told s P place t = (t ≡ true) ↔ StandsBefore s P place
+
+module _ (s : List ℕ) (P : ℕ → Type 0) (n : ℕ) where
+  earlier-stands : StandsBefore s P (segmentPlace s n) → StandsBefore s P (segmentPlace s (suc n))
+  earlier-stands b = record { segment = b .segment; before = omega (arith, b .before, place-further s n); is = b .is }
+
+  -- before the next segment stand this one and the earlier ones
+  stands-earlier : (P n → ⊥) → StandsBefore s P (segmentPlace s (suc n)) → StandsBefore s P (segmentPlace s n)
+  stands-earlier not b = record { segment = k; before = pick (decLt k n); is = b .is }
+    where
+      k : ℕ
+      k = b .segment
+
+      here : Dec (n < k) → (k < n → ⊥) → ⊥
+      here (yes l) m = omega (arith, b .before, places-rise s (suc n) k (omega arith))
+      here (no l) m =
+          let q : k ≡ n = omega arith in
+          not (rw q at (b .is))
+
+      pick : Dec (k < n) → segmentPlace s k < segmentPlace s n
+      pick (yes m) = omega (arith, place-further s k, places-rise s (suc k) n (omega arith))
+      pick (no m) = absurd (here (decLt n k) m)
+
+  -- this one is such: a yes
+  told-here : {b : Bool} → P n → b ≡ true → Told s P (segmentPlace s (suc n)) b
+  told-here is e = (λ _. record { segment = n; before = place-further s n; is = is }, λ _. e)
+
+  -- or it is not: what was told of the earlier ones
+  told-earlier : {u b : Bool} → Told s P (segmentPlace s n) u → (P n → ⊥) → b ≡ u → Told s P (segmentPlace s (suc n)) b
+  told-earlier c not e = (λ f. earlier-stands (c .0 (sym e ∙ f)), λ b. e ∙ c .1 (stands-earlier not b))
 
 -- ---- what is known of the segments before the place `at`
 
@@ -124,7 +151,7 @@ pub record Chain (s : List ℕ) (at : ℕ) (x : Seen) : Type 0 where
   pub wgt : Once s (Marked s WGT) count (x .wgt)
   pub crg : Once s (Marked s CRG) count (x .crg)
   pub behind : (j : ℕ) → j < count → Marked s WGT j → (k : ℕ) × (k < j) × Marked s CDT k
-  pub caption : Earliest s (IsCaption s) count (x .caption)
+  pub caption : Told s (IsCaption s) at (x .caption)
 
 module _ (s : List ℕ) (p : ℕ) (x : Seen) (c : Chain s p x) where
   abbrev n : ℕ
@@ -138,20 +165,23 @@ module _ (s : List ℕ) (p : ℕ) (x : Seen) (c : Chain s p x) where
   here-marked k e = rw (← c .here) e
 
   chain-more : (kind : Standing s n) {y : Seen} → Once s (Marked s CDT) (suc n) (y .cdt) → Once s (Marked s WGT) (suc n) (y .wgt) → Once s (Marked s CRG) (suc n) (y .crg)
-      → (Marked s WGT n → (k : ℕ) × (k < n) × Marked s CDT k) → Earliest s (IsCaption s) (suc n) (y .caption) → Chain s (p + 2 + fieldAt s (p + 2) 16) y
+      → (Marked s WGT n → (k : ℕ) × (k < n) × Marked s CDT k) → Told s (IsCaption s) (segmentPlace s (suc n)) (y .caption) → Chain s (p + 2 + fieldAt s (p + 2) 16) y
   unfolding segmentPlace
-  chain-more kind cdt wgt crg behind caption =
+  chain-more kind {y} cdt wgt crg behind caption =
       record {
         count = suc n;
-        here = λ i. c .here i + 2 + fieldAt s (c .here i + 2) 16;
+        here = here;
         kinds = λ k l. earlier k l (decLt k n);
         cdt = cdt;
         wgt = wgt;
         crg = crg;
         behind = λ j l e. later j l e (decLt j n);
-        caption = caption;
+        caption = subst (λ (q : ℕ). Told s (IsCaption s) q (y .caption)) (sym here) caption;
       }
     where
+      here : p + 2 + fieldAt s (p + 2) 16 ≡ segmentPlace s n + 2 + fieldAt s (segmentPlace s n + 2) 16
+      here = λ i. c .here i + 2 + fieldAt s (c .here i + 2) 16
+
       earlier : (k : ℕ) → k < suc n → Dec (k < n) → Standing s k
       earlier k l (yes a) = c .kinds k a
       earlier k l (no a) =
@@ -163,6 +193,9 @@ module _ (s : List ℕ) (p : ℕ) (x : Seen) (c : Chain s p x) where
       later j l e (no a) =
           let q : j ≡ n = omega arith in
           rw q (behind (rw q at e))
+
+  told : Told s (IsCaption s) (segmentPlace s n) (x .caption)
+  told = subst (λ (q : ℕ). Told s (IsCaption s) q (x .caption)) (c .here) (c .caption)
 
   -- two codes
   other : {a b : ℕ} → Marked s a n → (a ≡ b → ⊥) → Marked s b n → ⊥
@@ -180,7 +213,7 @@ module _ (s : List ℕ) (p : ℕ) (x : Seen) (c : Chain s p x) where
         (once-more s (Marked s WGT) n (c .wgt) (other is (λ q. omega arith)))
         (once-more s (Marked s CRG) n (c .crg) (other is (λ q. omega arith)))
         (λ f. absurd (other is (λ q. omega arith) f))
-        (earliest-more s (IsCaption s) n (c .caption) (λ f. other is (λ q. omega arith) (f .0)))
+        (told-earlier s (IsCaption s) n told (λ f. other is (λ q. omega arith) (f .0)) refl)
     accepted-chain Weights code e =
         let l = held (checksOf Weights s h x (segmentAt s p)) e in
         let none = not-counted (x .wgt) (l .0 .most) in
@@ -190,21 +223,24 @@ module _ (s : List ℕ) (p : ℕ) (x : Seen) (c : Chain s p x) where
         (seen n (only-new (Marked s WGT) n (once-none s (Marked s WGT) n (c .wgt) none) is) (c .here))
         (once-more s (Marked s CRG) n (c .crg) (other is (λ q. omega arith)))
         (λ f. (table .0, table .1 .before, table .1 .is))
-        (earliest-more s (IsCaption s) n (c .caption) (λ f. other is (λ q. omega arith) (f .0)))
+        (told-earlier s (IsCaption s) n told (λ f. other is (λ q. omega arith) (f .0)) refl)
     accepted-chain Extension code e =
         let is = here-marked COM code in
         chain-more (inr (inr (inl is))) (once-more s (Marked s CDT) n (c .cdt) (other is (λ q. omega arith)))
         (once-more s (Marked s WGT) n (c .wgt) (other is (λ q. omega arith)))
         (once-more s (Marked s CRG) n (c .crg) (other is (λ q. omega arith)))
         (λ f. absurd (other is (λ q. omega arith) f))
-        (earliest-by s (IsCaption s) n (isCaption s p) (noneYet x) (c .caption) (c .here) (λ e. (is, typed (omega (arith, e, eqb-true)))) (λ e f. omega (arith, e, eqb-false, untyped (f .1)))
-        (λ e. omega (arith, e, eqb-true)) (λ e z. omega (arith, e, eqb-false, z)))
+        (extended is (isCaption s p) refl)
       where
         typed : typeAt s p ≡ CAPTION → typeAt s (segmentPlace s n) ≡ CAPTION
         typed e = rw (← c .here) e
 
         untyped : typeAt s (segmentPlace s n) ≡ CAPTION → typeAt s p ≡ CAPTION
         untyped e = rw (c .here) e
+
+        extended : Marked s COM n → (t : Bool) → t ≡ isCaption s p → Told s (IsCaption s) (segmentPlace s (suc n)) (accepted Extension s (segmentAt s p) x .seen .caption)
+        extended is true t = told-here s (IsCaption s) n (is, typed (omega (arith, sym t, eqb-true))) (rw (← t) refl)
+        extended is false t = told-earlier s (IsCaption s) n told (λ f. omega (arith, sym t, eqb-false, untyped (f .1))) (rw (← t) refl)
     accepted-chain Undecomposed code e =
         let l = held (checksOf Undecomposed s h x (segmentAt s p)) e .1 .1 .1 .1 in
         absurd (omega (arith, l .0 .least, l .1 .1 .0 .most))
@@ -215,7 +251,7 @@ module _ (s : List ℕ) (p : ℕ) (x : Seen) (c : Chain s p x) where
         (once-more s (Marked s WGT) n (c .wgt) (other is (λ q. omega arith)))
         (seen n (only-new (Marked s CRG) n (once-none s (Marked s CRG) n (c .crg) none) is) (c .here))
         (λ f. absurd (other is (λ q. omega arith) f))
-        (earliest-more s (IsCaption s) n (c .caption) (λ f. other is (λ q. omega arith) (f .0)))
+        (told-earlier s (IsCaption s) n told (λ f. other is (λ q. omega arith) (f .0)) refl)
     accepted-chain (Unbuilt f) code e = c
     accepted-chain Slice code e = c
     accepted-chain Predicted code e = c
@@ -248,7 +284,7 @@ module _ (s : List ℕ) (h : Picture) where
         wgt = unseen refl (none (Marked s WGT));
         crg = unseen refl (none (Marked s CRG));
         behind = λ k l. absurd (omega arith);
-        caption = unnoted refl (none (IsCaption s));
+        caption = (λ e. clash (sym e), λ b. absurd (omega (arith, b .before, places-rise s 0 (b .segment) (omega arith))));
       }
 
   pub walk-chain : Chain s (walk s h (picturePlace s + 28) .at) (walk s h (picturePlace s + 28) .seen)

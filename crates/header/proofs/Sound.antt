@@ -28,7 +28,7 @@ use Rattle.segments.proofs.Codes.{Coded, coded, code-refused}
 use Rattle.header.specs.Walk.{ended, accepted, judged, step}
 use Rattle.header.specs.Turns.{turn, begun, walk, Inside}
 use Rattle.header.specs.declared.walk.Walk.{Walk}
-use Rattle.header.proofs.Steps.{clash, turn-on, turn-end, bound-unused, step-inside}
+use Rattle.header.proofs.Steps.{clash, turn-on, turn-end, bound-unused}
 use Rattle.loops.proofs.Laws.{Kept, until-keeps}
 
 -- ---- places of segments
@@ -166,7 +166,4 @@ module _ (s : List ℕ) (h : Picture) where
 
   -- before any segment
   pub unseen-inside : {a : ℕ} {done : Bool} {v : Verdict} → a ≤ length s → Inside s (record { at = a; done = done; verdict = v; seen = noneSeen })
-  unseen-inside l = record { at = l; cdt = zero-le; wgt = zero-le; caption = zero-le; part = zero-le }
-
-  pub walk-inside : (p : ℕ) → p ≤ length s → Inside s (walk s h p)
-  walk-inside p l = walk-keeps (Inside s) (step-inside s h) (unseen-inside zero-le) p (unseen-inside l) .0
+  unseen-inside l = record { at = l; cdt = zero-le; wgt = zero-le }

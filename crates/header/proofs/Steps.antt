@@ -1,19 +1,18 @@
 -- Laws of the walk: a step that goes on gets at least four bytes further and stays in the stream, so the walk ends by itself. Assumes nothing.
 use Prim.Native.Nat.{ℕ, _+_, _*_, _-_, _≤_, _<_}
-use mathlib.Core.Bool.{Bool, true, false, _&&_, cond}
+use mathlib.Core.Bool.{Bool, true, false, cond}
 use mathlib.Core.List.{List, _++_}
 use mathlib.Core.Path.{_≡_, refl, sym}
 use native.Mathlib.Omega.{arith}
-use lib.Dec.{eqb, lit≤}
+use lib.Dec.{lit≤}
 use lib.ListN.{length}
 use Rattle.loops.specs.Run.{go, stop}
-use Rattle.bits.specs.Fields.{fieldAt}
 use Rattle.rows.specs.Rows.{first}
 use Rattle.rows.specs.declared.Field.the-variants.{Cdt, Wgt, Crg, Lcdt, Lwgt, Lcom, Lcrg, Lcwd}
 use Rattle.rows.specs.declared.Row.the-variants.{Lacking}
 use Rattle.rows.specs.declared.Verdict.{Verdict}
 use Rattle.rows.specs.declared.Verdict.the-variants.{Fine, Refused}
-use Rattle.rows.proofs.Tables.{append-fine, held}
+use Rattle.rows.proofs.Tables.{append-fine}
 use Rattle.picture.specs.Segment.{segmentAt, lengthChecks}
 use Rattle.picture.specs.declared.picture.Picture.{Picture}
 use Rattle.picture.specs.declared.segment.Segment.{Segment}
@@ -24,8 +23,7 @@ use Rattle.segments.specs.Weights.{bandsIn, gainChecks}
 use Rattle.segments.specs.declared.kinds.Kind.{Kind}
 use Rattle.segments.specs.declared.kinds.Kind.the-variants.{Components, Weights, Extension, Undecomposed, Registration, Unbuilt, Slice, Predicted, Unknown}
 use Rattle.segments.specs.declared.seen.Seen.{Seen}
-use Rattle.segments.proofs.NumberLaws.{cond-le}
-use Rattle.header.specs.Walk.{captionOf, isCaption, noneYet, ended, accepted, judged, step}
+use Rattle.header.specs.Walk.{ended, accepted, judged, step}
 use Rattle.header.specs.Turns.{turn, begun, walkOr, walk, Inside}
 use Rattle.header.specs.declared.walk.Walk.{Walk}
 use Rattle.loops.proofs.Laws.{Falls, until-free}
@@ -134,37 +132,21 @@ bound-unused never s h p = until-free (left s) (turn s h) (turn-falls s h) never
 
 -- ---- its places are inside the stream
 
--- an extension's data
-part-of : (s : List ℕ) (p : ℕ) (b : Bool) → 4 ≤ fieldAt s (p + 2) 16 → p + 2 + fieldAt s (p + 2) 16 ≤ length s →
-    cond b 0 (p + 6) + cond b 0 (fieldAt s (p + 2) 16 - 4) ≤ length s
-part-of s p true l e = omega arith
-part-of s p false l e = omega arith
-
 module _ (s : List ℕ) (h : Picture) (w : Walk) (i : Inside s w) where
   -- where the walk ends
   stays : Inside s (ended Fine (w .at) (w .seen))
-  stays = record { at = i .at; cdt = i .cdt; wgt = i .wgt; caption = i .caption; part = i .part }
-
-  caption-inside : (b : Bool) → 4 ≤ fieldAt s (w .at + 2) 16 → w .at + 2 + fieldAt s (w .at + 2) 16 ≤ length s →
-      captionOf s (cond b (w .at) (w .seen .caption)) .at + captionOf s (cond b (w .at) (w .seen .caption)) .size ≤ length s
-  caption-inside true l e = part-of s (w .at) (eqb (w .at) 0) l e
-  caption-inside false l e = i .part
+  stays = record { at = i .at; cdt = i .cdt; wgt = i .wgt }
 
   accepted-inside : (k : Kind) → first (checksOf k s h (w .seen) (segmentAt s (w .at))) ≡ Fine → Inside s (accepted k s (segmentAt s (w .at)) (w .seen))
   accepted-inside Components e =
-      record { at = accepted-on s h (w .seen) (w .at) Components e refl .1; cdt = i .at; wgt = i .wgt; caption = i .caption; part = i .part }
+      record { at = accepted-on s h (w .seen) (w .at) Components e refl .1; cdt = i .at; wgt = i .wgt }
   accepted-inside Weights e =
-      record { at = accepted-on s h (w .seen) (w .at) Weights e refl .1; cdt = i .cdt; wgt = i .at; caption = i .caption; part = i .part }
-  accepted-inside Extension e =
-      let f = accepted-on s h (w .seen) (w .at) Extension e refl .1 in
-      let is = isCaption s (w .at) && noneYet (w .seen) in
-      let size = lengthChecks (segmentAt s (w .at)) Lcom 4 0xffff in
-      let l = held size (append-fine size (typeChecks s (w .at)) e .0) .1 .1 .0 .least in
-      record { at = f; cdt = i .cdt; wgt = i .wgt; caption = cond-le is (w .at) (w .seen .caption) (length s) (i .at) (i .caption) refl; part = caption-inside is l f }
+      record { at = accepted-on s h (w .seen) (w .at) Weights e refl .1; cdt = i .cdt; wgt = i .at }
+  accepted-inside Extension e = record { at = accepted-on s h (w .seen) (w .at) Extension e refl .1; cdt = i .cdt; wgt = i .wgt }
   accepted-inside Undecomposed e =
-      record { at = accepted-on s h (w .seen) (w .at) Undecomposed e refl .1; cdt = i .cdt; wgt = i .wgt; caption = i .caption; part = i .part }
+      record { at = accepted-on s h (w .seen) (w .at) Undecomposed e refl .1; cdt = i .cdt; wgt = i .wgt }
   accepted-inside Registration e =
-      record { at = accepted-on s h (w .seen) (w .at) Registration e refl .1; cdt = i .cdt; wgt = i .wgt; caption = i .caption; part = i .part }
+      record { at = accepted-on s h (w .seen) (w .at) Registration e refl .1; cdt = i .cdt; wgt = i .wgt }
   accepted-inside (Unbuilt f) e = stays
   accepted-inside Slice e = stays
   accepted-inside Predicted e = stays
@@ -172,7 +154,7 @@ module _ (s : List ℕ) (h : Picture) (w : Walk) (i : Inside s w) where
 
   judged-inside : (v : Verdict) (k : Kind) → (v ≡ Fine → first (checksOf k s h (w .seen) (segmentAt s (w .at))) ≡ Fine) → Inside s (judged v k s (segmentAt s (w .at)) (w .seen))
   judged-inside Fine k f = accepted-inside k (f refl)
-  judged-inside (Refused c) k f = record { at = i .at; cdt = i .cdt; wgt = i .wgt; caption = i .caption; part = i .part }
+  judged-inside (Refused c) k f = record { at = i .at; cdt = i .cdt; wgt = i .wgt }
 
   pub step-inside : Inside s (step s h w)
   unfolding step

@@ -44,4 +44,3 @@ pub record Accepted (s : List ℕ) (h : Header) : Type 0 where
   pub whole : h .picture .lcod ≡ length s
   pub short : length s < 2 ^ 32
   pub slice : h .slice + 2 ≤ length s
-  pub caption : h .caption .at + h .caption .size ≤ length s

@@ -1,10 +1,9 @@
 -- The header of a codestream: what its segments say, or the first broken check.
-use Prim.Native.Nat.{ℕ, _+_, _≤_}
+use Prim.Native.Nat.{ℕ, _+_}
 use mathlib.Core.Bool.{Bool, false, _&&_, cond}
 use mathlib.Core.List.{List, [], _∷_}
-use mathlib.Core.Path.{_≡_}
 use lib.Dec.{ltb}
-use lib.ListN.{length, take, drop, replicate}
+use lib.ListN.{replicate}
 use Rattle.whole.specs.Cells.{listed}
 use Rattle.rows.specs.Rows.{first}
 use Rattle.rows.specs.declared.Verdict.{Verdict}
@@ -18,9 +17,8 @@ use Rattle.segments.specs.Segments.{noneSeen}
 use Rattle.segments.specs.Weights.{bandIn, gainAt, priorityAt}
 use Rattle.segments.specs.declared.components.Component.{Component}
 use Rattle.segments.specs.declared.seen.Seen.{Seen}
-use Rattle.header.specs.Walk.{ended, captionOf}
+use Rattle.header.specs.Walk.{ended}
 use Rattle.header.specs.Turns.{walk}
-use Rattle.header.specs.declared.captions.Caption.{Caption}
 use Rattle.header.specs.declared.header.Header.{Header}
 use Rattle.header.specs.declared.header.Reading.{Reading}
 use Rattle.header.specs.declared.walk.Walk.{Walk}
@@ -62,11 +60,11 @@ headerIn s h x slice =
       sy = four (λ c. componentOf s h (x .cdt) c .sy);
       gains = weightsOf s h (x .cdt) (x .wgt) .gains;
       priorities = weightsOf s h (x .cdt) (x .wgt) .priorities;
-      caption = captionOf s (x .caption);
+      caption = x .caption;
       slice = slice;
     }
 
--- no header: all 0
+-- no header: all 0 and 'no'
 abbrev pub noHeader : Header
 noHeader =
     record {
@@ -76,7 +74,7 @@ noHeader =
       sy = replicate 4 0;
       gains = replicate 40 0;
       priorities = replicate 40 0;
-      caption = record { there = false; at = 0; size = 0 };
+      caption = false;
       slice = 0;
     }
 
@@ -99,15 +97,3 @@ walkOf s = walkBy (first (openingChecks s)) s (pictureAt s (picturePlace s)) (pi
 
 unfoldable pub readingOf : List ℕ → Reading
 readingOf s = readingBy s (pictureAt s (picturePlace s)) (walkOf s)
-
--- a part of the stream; empty where there is no caption, or a refusal by then
-abbrev pub captionIn : List ℕ → Caption → List ℕ
-captionIn s c = take (c .size) (drop (c .at) s)
-
-unfoldable pub captionPart : List ℕ → List ℕ
-captionPart s = captionIn s (readingOf s .header .caption)
-
--- what the header's reader answers: that the caption ends in the stream follows, and stands beside it for the callers' sums
-pub record IsReading (s : List ℕ) (r : Reading) : Type 0 where
-  pub value : r ≡ readingOf s
-  pub part : r .header .caption .at + r .header .caption .size ≤ length s

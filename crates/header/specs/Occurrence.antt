@@ -1,9 +1,9 @@
 -- A.2 and A.4: which segments stand between the picture header and the first slice header of an accepted stream, said of its bytes alone. Segments count
 -- from 0. `accepted-header` shows that it holds.
-use Prim.Native.Nat.{ℕ, zero, suc, _+_, _-_, _<_}
-use mathlib.Core.Bool.{true, false}
+use Prim.Native.Nat.{ℕ, zero, suc, _+_, _<_}
+use mathlib.Core.Bool.{true}
 use mathlib.Core.List.{List}
-use mathlib.Core.Logic.{_⊎_}
+use mathlib.Core.Logic.{_⊎_, _↔_}
 use mathlib.Core.Path.{_≡_}
 use Rattle.bits.specs.Fields.{fieldAt}
 use Rattle.picture.specs.Markers.{CDT, WGT, COM, CRG, SLH, CAPTION}
@@ -11,7 +11,6 @@ use Rattle.picture.specs.Opening.{picturePlace, pictureBytes}
 use Rattle.picture.specs.Picture.{pictureAt}
 use Rattle.segments.specs.Segments.{typeAt}
 use Rattle.header.specs.Header.{four, componentOf, weightsOf}
-use Rattle.header.specs.declared.captions.Caption.{Caption}
 use Rattle.header.specs.declared.header.Header.{Header}
 
 -- A.3: the place of segment k. The first stands behind the picture header; a segment has its marker's two bytes and as many as its length says
@@ -37,21 +36,11 @@ pub record Only (P : ℕ → Type 0) (n k : ℕ) : Type 0 where
 abbrev pub AtMostOne : (ℕ → Type 0) → ℕ → Type 0
 AtMostOne P n = (j k : ℕ) → j < n → k < n → P j → P k → j ≡ k
 
--- none is
-abbrev pub None : (ℕ → Type 0) → ℕ → Type 0
-None P n = (k : ℕ) → k < n → P k → ⊥
-
--- k is the first that is
-pub record First (P : ℕ → Type 0) (n k : ℕ) : Type 0 where
-  pub before : k < n
-  pub is : P k
-  pub first : None P k
-
--- document 01: 'The first one counts; later ones are skipped. The caption is handed back as the stream's own bytes, without header.' Its marker, length
--- and type have 6 bytes, and its length counts 4 of them
-pub data Captioned (s : List ℕ) (n : ℕ) (c : Caption) : Type 0 where
-  absent : None (IsCaption s) n → c ≡ record { there = false; at = 0; size = 0 } → Captioned s n c
-  earliest : (k : ℕ) → First (IsCaption s) n k → c ≡ record { there = true; at = segmentPlace s k + 6; size = fieldAt s (segmentPlace s k + 2) 16 - 4 } → Captioned s n c
+-- a segment of which P holds stands before a place, whatever else stands there
+pub record StandsBefore (s : List ℕ) (P : ℕ → Type 0) (place : ℕ) : Type 0 where
+  pub segment : ℕ
+  pub before : segmentPlace s segment < place
+  pub is : P segment
 
 -- of the header h of an accepted stream
 pub record Occurs (s : List ℕ) (h : Header) : Type 0 where
@@ -77,4 +66,5 @@ pub record Occurs (s : List ℕ) (h : Header) : Type 0 where
   pub sy : h .sy ≡ four (λ c. componentOf s (h .picture) (segmentPlace s cdt) c .sy)
   pub gains : h .gains ≡ weightsOf s (h .picture) (segmentPlace s cdt) (segmentPlace s wgt) .gains
   pub priorities : h .priorities ≡ weightsOf s (h .picture) (segmentPlace s cdt) (segmentPlace s wgt) .priorities
-  pub caption : Captioned s count (h .caption)
+  -- document 02, C-13: 'the record's yes still tells that one is there'
+  pub caption : (h .caption ≡ true) ↔ StandsBefore s (IsCaption s) (h .slice)

@@ -1,5 +1,6 @@
--- One of the places of segments seen is set. The others stay.
+-- One of the segments seen is set: its place or, of a bench caption, whether there is one. The others stay.
 use Prim.Native.Nat.{ℕ}
+use mathlib.Core.Bool.{Bool}
 use Rattle.segments.specs.declared.seen.Seen.{Seen}
 
 abbrev pub setCdt : ℕ → Seen → Seen
@@ -8,8 +9,8 @@ setCdt p x = record { cdt = p; wgt = x .wgt; caption = x .caption; crg = x .crg;
 abbrev pub setWgt : ℕ → Seen → Seen
 setWgt p x = record { cdt = x .cdt; wgt = p; caption = x .caption; crg = x .crg; cwd = x .cwd }
 
-abbrev pub setCaption : ℕ → Seen → Seen
-setCaption p x = record { cdt = x .cdt; wgt = x .wgt; caption = p; crg = x .crg; cwd = x .cwd }
+abbrev pub setCaption : Bool → Seen → Seen
+setCaption b x = record { cdt = x .cdt; wgt = x .wgt; caption = b; crg = x .crg; cwd = x .cwd }
 
 abbrev pub setCrg : ℕ → Seen → Seen
 setCrg p x = record { cdt = x .cdt; wgt = x .wgt; caption = x .caption; crg = p; cwd = x .cwd }

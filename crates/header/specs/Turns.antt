@@ -8,7 +8,7 @@ use Rattle.loops.specs.Run.{Turn, go, stop, until}
 use Rattle.rows.specs.declared.Verdict.the-variants.{Fine}
 use Rattle.picture.specs.declared.picture.Picture.{Picture}
 use Rattle.segments.specs.Segments.{noneSeen}
-use Rattle.header.specs.Walk.{step, captionOf}
+use Rattle.header.specs.Walk.{step}
 use Rattle.header.specs.declared.walk.Walk.{Walk}
 
 unfoldable pub turn : List ℕ → Picture → Walk → Turn Walk Walk
@@ -29,8 +29,6 @@ pub record Inside (s : List ℕ) (w : Walk) : Type 0 where
   pub at : w .at ≤ length s
   pub cdt : w .seen .cdt ≤ length s
   pub wgt : w .seen .wgt ≤ length s
-  pub caption : w .seen .caption ≤ length s
-  pub part : captionOf s (w .seen .caption) .at + captionOf s (w .seen .caption) .size ≤ length s
 
 -- what the walk's reader answers: that its places are inside follows, and stands beside it for the callers' sums
 pub record IsWalk (s : List ℕ) (h : Picture) (p : ℕ) (w : Walk) : Type 0 where

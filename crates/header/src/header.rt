@@ -1,5 +1,4 @@
 // The header by value.
-use crate::captions::Caption;
 use crate::walk::Walk;
 use crate::walk::walk_from;
 use crate::weights::Weights;
@@ -8,7 +7,7 @@ use rows::Verdict;
 use segments::components::Component;
 use segments::seen::Seen;
 ghost use mathlib.Core.Path.{_≡_};
-ghost use Prim.Native.Nat.{_+_, _<_, _≤_, _^_};
+ghost use Prim.Native.Nat.{_<_, _^_};
 ghost use lib.ListN.{length};
 ghost use Rattle.rows.specs.declared.Verdict.the-variants.{Fine};
 ghost use Rattle.picture.specs.Picture.{Built};
@@ -26,12 +25,13 @@ pub struct Header {
     // by band: 0 where it does not exist
     pub gains: [u8; 40],
     pub priorities: [u8; 40],
-    pub caption: Caption,
+    // whether a bench caption is there
+    pub caption: bool,
     // the place of the first slice marker
     pub slice: usize,
 }
 
-// A refused stream has no header: all of it is 0.
+// A refused stream has no header: all of it is 0 and 'no'.
 pub struct Reading {
     pub verdict: Verdict,
     pub header: Header,
@@ -56,7 +56,7 @@ fn component(s: &[u8], h: Picture, cdt: usize, c: usize) -> Component
 impl Header {
     // By the picture header, the segments seen, and the place of the first slice marker.
     fn read(s: &[u8], h: Picture, x: Seen, slice: usize) -> Self
-        requires { ⌜ Built h × (x .cdt < 2 ^ 32) × (x .wgt < 2 ^ 32) × (x .caption < 2 ^ 32) ⌝ }
+        requires { ⌜ Built h × (x .cdt < 2 ^ 32) × (x .wgt < 2 ^ 32) ⌝ }
         ensures { λ r. ⌜ r ≡ headerIn (now (s .entry)) h x slice ⌝ }
     {
         let c0 = component(s, h, x.cdt, 0);
@@ -73,7 +73,7 @@ impl Header {
             sy: [c0.sy, c1.sy, c2.sy, c3.sy],
             gains,
             priorities,
-            caption: Caption::read(s, x.caption),
+            caption: x.caption,
             slice,
         }
     }
@@ -89,11 +89,7 @@ impl Header {
             sy: [0; 4],
             gains: [0; 40],
             priorities: [0; 40],
-            caption: Caption {
-                there: false,
-                at: 0,
-                size: 0,
-            },
+            caption: false,
             slice: 0,
         }
     }
@@ -125,7 +121,7 @@ fn header_by(v: Verdict, s: &[u8], h: Picture, w: Walk) -> Header
 // The answer at a walk's end.
 pub(crate) fn reading_by(s: &[u8], h: Picture, w: Walk) -> Reading
     requires { ⌜ (w .verdict ≡ Fine → Built h × (length (now s) < 2 ^ 32)) × Inside (now s) w ⌝ }
-    ensures { λ r. ⌜ (r ≡ readingBy (now (s .entry)) h w) × (r .header .caption .at + r .header .caption .size ≤ length (now (s .entry))) ⌝ }
+    ensures { λ r. ⌜ r ≡ readingBy (now (s .entry)) h w ⌝ }
 {
     let verdict = w.verdict;
     Reading {

@@ -11,7 +11,7 @@ ghost use mathlib.Core.Path.{_≡_};
 ghost use Prim.Native.Nat.{_<_, _≤_, _^_};
 ghost use lib.ListN.{length};
 ghost use Rattle.picture.specs.Picture.{Built};
-ghost use Rattle.header.specs.Walk.{captionPlace, ended, behind, accepted, judged, step};
+ghost use Rattle.header.specs.Walk.{isCaption, ended, behind, accepted, judged, step};
 ghost use Rattle.header.specs.Turns.{begun, Inside, IsWalk};
 
 // Where the walk is, whether it has ended, with which verdict, and what it has seen.
@@ -62,13 +62,12 @@ impl Walk {
     }
 }
 
-// The place of the first bench caption.
-fn caption_place(s: &[u8], g: Segment, x: Seen) -> usize
-    requires { ⌜ g .at < 2 ^ 32 ⌝ }
-    ensures { λ r. ⌜ r ≡ captionPlace (now (s .entry)) g x ⌝ }
+// Whether the extension at the place p is a bench caption.
+fn is_caption(s: &[u8], p: usize) -> bool
+    requires { ⌜ p < 2 ^ 32 ⌝ }
+    ensures { λ r. ⌜ r ≡ isCaption (now (s .entry)) p ⌝ }
 {
-    let is = bits::u16_at(s, g.at + 4) == Extension::CAPTION;
-    rows::choose(is & (x.caption == 0), g.at, x.caption)
+    bits::u16_at(s, p + 4) == Extension::CAPTION
 }
 
 // An accepted segment.
@@ -76,7 +75,7 @@ fn accept(kind: Kind, s: &[u8], g: Segment, x: Seen) -> Walk
     requires { ⌜ (g .at < 2 ^ 32) × (g .size < 2 ^ 16) ⌝ }
     ensures { λ r. ⌜ r ≡ accepted kind (now (s .entry)) g x ⌝ }
 {
-    let caption = caption_place(s, g, x);
+    let caption = is_caption(s, g.at);
     match kind {
         Kind::Components => {
             let mut y = x;
@@ -90,7 +89,7 @@ fn accept(kind: Kind, s: &[u8], g: Segment, x: Seen) -> Walk
         }
         Kind::Extension => {
             let mut y = x;
-            y.caption = caption;
+            y.caption = caption | x.caption;
             Walk::behind(g, y)
         }
         Kind::Registration => {

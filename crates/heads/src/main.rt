@@ -1,5 +1,4 @@
 // Reads the header of each file that is named, and prints the answer's number and place, or the header's fields.
-use header::captions::Caption;
 use header::header::Header;
 use libc::STDOUT_FILENO;
 use picture::picture::Picture;
@@ -88,46 +87,31 @@ fn print_bands(name: &[u8], weights: [u8; 40]) {
     text(b"\n");
 }
 
-fn print_bytes(bytes: &[u8]) {
-    let mut i = 0;
-    while i < bytes.len() {
-        space();
-        number(wide(bytes[i]));
-        i += 1;
-    }
-}
-
-// The place and size that the header has, and the bytes that are handed back.
-fn print_caption(c: Caption, s: &[u8]) {
-    if c.there {
-        field(b"  caption at", c.at);
-        field(b" size", c.size);
-        text(b":");
+fn print_caption(there: bool) {
+    if there {
+        text(b"  caption yes\n");
     } else {
-        text(b"  no caption:");
+        text(b"  caption no\n");
     }
-    print_bytes(header::caption(s));
-    text(b"\n");
 }
 
-fn print_header(h: Header, s: &[u8]) {
+fn print_header(h: Header) {
     field(b" slice at", h.slice);
     text(b"\n");
     let picture = h.picture;
     let gains = h.gains;
     let priorities = h.priorities;
-    let caption = h.caption;
     print_sizes(picture);
     print_modes(picture);
     print_components(h);
     print_bands(b"  gains", gains);
     print_bands(b"  priorities", priorities);
-    print_caption(caption, s);
+    print_caption(h.caption);
 }
 
-fn print_answer(v: Verdict, h: Header, s: &[u8]) {
+fn print_answer(v: Verdict, h: Header) {
     match v {
-        Verdict::Fine => print_header(h, s),
+        Verdict::Fine => print_header(h),
         Verdict::Refused(c) => {
             let row = c.0;
             field(b" answer", rows::number(row) as usize);
@@ -143,7 +127,7 @@ fn print_stream(name: &[u8], s: &[u8]) {
     let r = header::read(s);
     let verdict = r.verdict;
     let h = r.header;
-    print_answer(verdict, h, s);
+    print_answer(verdict, h);
 }
 
 // The file that argument i names, of at most 65,535 bytes.

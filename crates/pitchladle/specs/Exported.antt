@@ -1,14 +1,13 @@
 -- What the exported functions leave, by the reader's and the header's definitions.
-use mathlib.Core.Bool.{false, cond}
+use mathlib.Core.Bool.{cond}
 use mathlib.Core.List.{List, [], _∷_, _++_}
 use mathlib.Core.Path.{_≡_}
-use Prim.Native.Nat.{ℕ, _+_, _≤_}
+use Prim.Native.Nat.{ℕ}
 use lib.IntN.{ℤ}
-use lib.ListN.{length, getD, take, drop}
+use lib.ListN.{length, getD}
 use Rattle.rows.specs.declared.Verdict.{Verdict}
 use Rattle.rows.specs.declared.Verdict.the-variants.{Fine, Refused}
-use Rattle.header.specs.Header.{readingOf, captionPart}
-use Rattle.header.specs.declared.captions.Caption.{Caption}
+use Rattle.header.specs.Header.{readingOf}
 use Rattle.header.specs.declared.header.Header.{Header}
 use Rattle.reader.specs.Settings.{N}
 use Rattle.reader.specs.Page.{pageOf, Reads}
@@ -38,16 +37,3 @@ neededBy (Refused c) h = 0
 
 unfoldable pub needed : List ℕ → ℕ
 needed s = neededBy (readingOf s .verdict) (readingOf s .header)
-
--- ---- the caption, a part of the stream
-
-abbrev pub captionIn : List ℕ → Caption
-captionIn s = readingOf s .header .caption
-
-pub record CaptionAt (s part : List ℕ) : Type 0 where
-  pub place-and-size : part ≡ captionIn s .at ∷ captionIn s .size ∷ []
-  -- the part lies in the stream, and is the caption
-  pub inside : captionIn s .at + captionIn s .size ≤ length s
-  pub bytes : take (captionIn s .size) (drop (captionIn s .at) s) ≡ captionPart s
-  -- '0, 0 where there is none'
-  pub none : captionIn s .there ≡ false → part ≡ 0 ∷ 0 ∷ []

@@ -1,2 +1,2 @@
--- What crosses to C: the page record, a page's need, and the caption, as numbers.
+-- What crosses to C: the page record and a page's need, as numbers.
 pub mod Exported

@@ -10,7 +10,7 @@ ghost use mathlib.Core.Bool.{cond};
 ghost use Rattle.rows.specs.declared.Verdict.the-variants.{Fine};
 ghost use Rattle.layout.specs.Built.{Built};
 ghost use Rattle.shapes.specs.Shapes.{shapeOf};
-ghost use Rattle.pitchladle.specs.Exported.{cellsOf, Handed, neededBy, needed, CaptionAt};
+ghost use Rattle.pitchladle.specs.Exported.{cellsOf, Handed, neededBy, needed};
 
 // 1 for yes and 0 for no.
 fn flag(b: bool) -> u64
@@ -88,15 +88,4 @@ pub extern "C" fn pitchladle_needs(stream: &[u8]) -> u64
     let v = r.verdict;
     let h = r.header;
     needed_by(v, h)
-}
-
-// Place and size of the bench caption; 0 and 0 where there is none, or the stream is refused by the first slice marker.
-#[no_mangle]
-pub extern "C" fn pitchladle_caption(stream: &[u8], part: &mut [u64; 2])
-    ensures { λ _. ⌜ CaptionAt (now (stream .entry)) (now (part .exit)) ⌝ }
-{
-    let r = header::read(stream);
-    let h = r.header;
-    let c = h.caption;
-    *part = [c.at as u64, c.size as u64];
 }

@@ -20,7 +20,7 @@ ghost use lib.IntN.{pos};
 ghost use lib.ListN.{length, replicate};
 ghost use Rattle.rows.specs.Rows.{first, then};
 ghost use Rattle.rows.specs.declared.Verdict.the-variants.{Fine};
-ghost use Rattle.header.specs.Header.{readingOf, captionPart};
+ghost use Rattle.header.specs.Header.{readingOf};
 ghost use Rattle.reader.specs.Settings.{N, roomChecks};
 ghost use Rattle.reader.specs.Decoding.{decodedVerdict};
 ghost use Rattle.reader.specs.Page.{Leaves, Reads};
@@ -134,11 +134,4 @@ pub fn read(stream: &[u8], samples: &mut [u16], work: &mut [i64]) -> Page
     let v = r.verdict;
     let h = r.header;
     read_by(v, stream, samples, work, h)
-}
-
-// The bench caption, a part of the stream: empty where there is none, or the stream is refused by the first slice marker.
-pub fn caption(stream: &[u8]) -> &[u8]
-    ensures { λ r. ⌜ now r ≡ captionPart (now (stream .entry)) ⌝ }
-{
-    header::caption(stream)
 }

@@ -1,4 +1,4 @@
-// The page record: the answer's number and its place; and of a page that is read, how many components it has, whether it has a caption, and of four
+// The page record: the answer's number and its place; and of a page that is read, how many components it has, whether a bench caption is there, and of four
 // components width, height, precision and distance: 0 where there is none.
 pub struct Page {
     pub answer: u8,

@@ -32,7 +32,6 @@ pub fn shown(h: Header, distance: [usize; 4]) -> Page
     ensures { λ r. ⌜ r ≡ pageRead h distance ⌝ }
 {
     let p = h.picture;
-    let caption = h.caption;
     let s0 = size_of(h, 0);
     let s1 = size_of(h, 1);
     let s2 = size_of(h, 2);
@@ -41,7 +40,7 @@ pub fn shown(h: Header, distance: [usize; 4]) -> Page
         answer: 0,
         place: p.lcod,
         components: p.nc,
-        caption: caption.there,
+        caption: h.caption,
         width: [s0.w, s1.w, s2.w, s3.w],
         height: [s0.h, s1.h, s2.h, s3.h],
         precision: [s0.b, s1.b, s2.b, s3.b],

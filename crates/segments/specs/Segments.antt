@@ -1,6 +1,6 @@
 -- A.4.5 to A.4.15: the segments between the picture header and the first slice header, in any order, and that header's marker.
 use Prim.Native.Nat.{ℕ, zero, suc, _+_, _*_, _-_, _^_, _<_}
-use mathlib.Core.Bool.{_&&_, cond}
+use mathlib.Core.Bool.{false, _&&_, cond}
 use mathlib.Core.List.{List, [], _∷_, _++_}
 use lib.Dec.{eqb, ltb}
 use Rattle.bits.specs.Fields.{fieldAt}
@@ -46,9 +46,9 @@ abbrev pub unknownChecks : Segment → List Check
 unknownChecks g =
     check Marker (g .at) Next (g .marker) (cond (ltb WGR (g .marker)) SLH CDT) (cond (ltb WGR (g .marker)) SLI WGR) ∷ []
 
--- the places of the segments seen so far: 0 for none
+-- the places of the segments seen so far: 0 for none; and whether an extension is a bench caption
 abbrev pub noneSeen : Seen
-noneSeen = record { cdt = 0; wgt = 0; caption = 0; crg = 0; cwd = 0 }
+noneSeen = record { cdt = 0; wgt = 0; caption = false; crg = 0; cwd = 0 }
 
 -- how many segments of a kind were seen
 abbrev pub counted : ℕ → ℕ

@@ -1,12 +1,13 @@
-// The segments that were accepted, each by its marker's place: 0 where there is none, since the start of the codestream stands there.
+// The segments that were accepted, each by its marker's place: 0 where there is none, since the start of the codestream stands there. Of bench captions nothing
+// is kept but that there is one.
 ghost use mathlib.Core.Path.{_≡_};
 ghost use Rattle.segments.specs.Segments.{noneSeen, counted};
 
 pub struct Seen {
     pub cdt: usize,
     pub wgt: usize,
-    // the first extension that is the bench caption
-    pub caption: usize,
+    // whether an extension is a bench caption
+    pub caption: bool,
     pub crg: usize,
     pub cwd: usize,
 }
@@ -18,7 +19,7 @@ impl Seen {
         Self {
             cdt: 0,
             wgt: 0,
-            caption: 0,
+            caption: false,
             crg: 0,
             cwd: 0,
         }

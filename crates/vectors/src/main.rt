@@ -1,5 +1,5 @@
-// Reads the stream NAME.jxs of each name that is given, and compares the page's text with NAME.txt, byte by byte. Prints the names of those that differ,
-// and how many agreed.
+// Reads the stream NAME.jxs of each name that is given, and compares the page's text with NAME.txt, byte by byte, and where NAME.caption is there, what the
+// record says of a caption with that. Prints the names of those that differ, how many agreed, and how many had a caption's yes or no stored.
 use libc::STDOUT_FILENO;
 ghost use Prim.Native.Nat.{_≤_};
 ghost use Rattle.io.specs.Counts.{Counts};
@@ -19,15 +19,17 @@ fn path_of(name: &[u8], ending: &[u8], out: &mut [u8]) -> usize
     show::put(out, stem, ending)
 }
 
-// The file NAME.ENDING: as much of it as `to` takes. Nothing where it is missing, which standard error then says.
-fn read_file(name: &[u8], ending: &[u8], to: &mut [u8]) -> usize
+// The file NAME.ENDING: as much of it as `to` takes. Nothing where it is missing, which standard error then says if it is needed.
+fn read_file(name: &[u8], ending: &[u8], needed: bool, to: &mut [u8]) -> usize
     ensures { λ r. ⌜ Counts r (now (to .exit)) ⌝ }
 {
     let mut path = io::buffer();
     let n = path_of(name, ending, &mut path);
     let file = os::open_read(&path[..n]);
     if file < 0 {
-        os::fail(&path[..n]);
+        if needed {
+            os::fail(&path[..n]);
+        }
         return 0;
     }
     let size = io::read_full(file, to);
@@ -35,16 +37,25 @@ fn read_file(name: &[u8], ending: &[u8], to: &mut [u8]) -> usize
     size
 }
 
-// The page's text.
-fn page_of(name: &[u8], out: &mut [u8]) -> usize
-    ensures { λ r. ⌜ Counts r (now (out .exit)) ⌝ }
+// What is said of a stream: how many bytes the page's text has, and the record's yes or no.
+struct Said {
+    size: usize,
+    caption: bool,
+}
+
+fn page_of(name: &[u8], out: &mut [u8]) -> Said
+    ensures { λ r. ⌜ Counts (r .size) (now (out .exit)) ⌝ }
 {
     let mut stream = io::large_buffer();
-    let n = read_file(name, b".jxs", &mut stream);
+    let n = read_file(name, b".jxs", true, &mut stream);
     let mut samples = [0u16; 2048];
     let mut work = [0i64; 4096];
     let page = reader::read(&stream[..n], &mut samples, &mut work);
-    show::page_text(page, &samples, out)
+    let caption = page.caption;
+    Said {
+        size: show::page_text(page, &samples, out),
+        caption,
+    }
 }
 
 // How many bytes stand before the first line's end.
@@ -75,37 +86,80 @@ fn print_difference(name: &[u8], page: &[u8], stored: &[u8]) {
     text(b"\n");
 }
 
-// 1 where the stream that argument i names has the stored answer.
-fn agreed(i: usize) -> usize
-    ensures { λ r. ⌜ r ≤ 1 ⌝ }
+// Whether an answer is the stored one.
+fn compared(name: &[u8], answer: &[u8], stored: &[u8]) -> bool {
+    if check::same(answer, stored) {
+        return true;
+    }
+    print_difference(name, answer, stored);
+    false
+}
+
+fn compared_caption(name: &[u8], caption: bool, stored: &[u8]) -> bool {
+    if caption {
+        compared(name, b"caption yes\n", stored)
+    } else {
+        compared(name, b"caption no\n", stored)
+    }
+}
+
+// Of one stream: 1 where what is said of it is what is stored, and 1 where a caption's yes or no is.
+struct Outcome {
+    agreed: usize,
+    told: usize,
+}
+
+fn outcome_of(i: usize) -> Outcome
+    ensures { λ r. ⌜ (r .agreed ≤ 1) × (r .told ≤ 1) ⌝ }
 {
     let mut name = io::buffer();
     let n = os::arg(i, &mut name);
     let mut page = io::large_buffer();
-    let size = page_of(&name[..n], &mut page);
+    let said = page_of(&name[..n], &mut page);
+    let size = said.size;
     let mut stored = io::large_buffer();
-    let wanted = read_file(&name[..n], b".txt", &mut stored);
-    if check::same(&page[..size], &stored[..wanted]) {
-        return 1;
+    let wanted = read_file(&name[..n], b".txt", true, &mut stored);
+    let same = compared(&name[..n], &page[..size], &stored[..wanted]);
+    let mut line = io::buffer();
+    let told = read_file(&name[..n], b".caption", false, &mut line);
+    if told == 0 {
+        return Outcome {
+            agreed: one_if(same),
+            told: 0,
+        };
     }
-    print_difference(&name[..n], &page[..size], &stored[..wanted]);
-    0
+    let yes = compared_caption(&name[..n], said.caption, &line[..told]);
+    Outcome {
+        agreed: one_if(same & yes),
+        told: 1,
+    }
 }
 
-fn print_tally(agreed: usize, differing: usize) {
+fn one_if(b: bool) -> usize
+    ensures { λ r. ⌜ r ≤ 1 ⌝ }
+{
+    if b { 1 } else { 0 }
+}
+
+fn print_tally(agreed: usize, differing: usize, told: usize) {
     number(agreed);
     text(b" agreed, ");
     number(differing);
-    text(b" differing\n");
+    text(b" differing; ");
+    number(told);
+    text(b" with a caption's yes or no\n");
 }
 
 fn main() {
     let count = os::arg_count();
     let mut all = 0;
+    let mut told = 0;
     let mut i = 1;
     while i < count {
-        all += agreed(i);
+        let o = outcome_of(i);
+        all += o.agreed;
+        told += o.told;
         i += 1;
     }
-    print_tally(all, i - 1 - all);
+    print_tally(all, i - 1 - all, told);
 }

@@ -35,7 +35,7 @@ returns c =
     let s = now (c .before .before .before .before .before .args .stream) in
     let o = c .before .before .before .read .ensures .value in
     let w = c .before .walk-by .ensures .0 ∙ (λ i. walkBy (o i .verdict) s (o i .picture) (o i .place)) in
-    record { value = c .reading-by .ensures .0 ∙ (λ i. readingBy s (o i .picture) (w i)); part = c .reading-by .ensures .1 }
+    c .reading-by .ensures ∙ (λ i. readingBy s (o i .picture) (w i))
 
 pub read-spec : {M : Type 1} → statement M
 read-spec = tie.close (tie.spec (λ c κs. search needs) walk-by-requires reading-by-requires returns)

@@ -8,7 +8,7 @@ use Rattle.layouts.proofs.print_stream.Tie as tie
 
 print-answer-requires : tie.Need-print-answer-requires
 print-answer-requires c κs e =
-    let r = c .before .before .read .ensures .value in
+    let r = c .before .before .read .ensures in
     rw (c .shape-of .ensures, r) (built _ (ap (λ (r : Reading). r .verdict) (sym r) ∙ e))
 
 pub print-stream-spec : {M : Type 1} → statement M

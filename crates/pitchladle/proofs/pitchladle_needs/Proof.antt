@@ -10,11 +10,11 @@ use Rattle.pitchladle.proofs.pitchladle_needs.Tie as tie
 
 needed-by-requires : tie.Need-needed-by-requires
 needed-by-requires c κs =
-    rw (c .before .read .ensures .value) (built (now (c .before .before .before .args .stream)))
+    rw (c .before .read .ensures) (built (now (c .before .before .before .args .stream)))
 
 returns : tie.Need-returns
 unfolding needed
-returns c = c .needed-by .ensures ∙ ap (λ (r : Reading). neededBy (r .verdict) (r .header)) (c .before .before .read .ensures .value)
+returns c = c .needed-by .ensures ∙ ap (λ (r : Reading). neededBy (r .verdict) (r .header)) (c .before .before .read .ensures)
 
 pub pitchladle-needs-spec : {M : Type 1} → statement M
 pitchladle-needs-spec = tie.close (tie.spec (λ c κs. search needs) needed-by-requires returns)

@@ -5,7 +5,7 @@ use Rattle.reader.proofs.read.Tie as tie
 
 read-by-requires : tie.Need-read-by-requires
 read-by-requires c κs =
-    let r = c .before .before .before .read .ensures .value in
+    let r = c .before .before .before .read .ensures in
     (λ i. r i .verdict, λ i. r i .header)
 
 pub read-spec : {M : Type 1} → statement M

@@ -11,7 +11,7 @@ read-requires : tie.Need-read-requires
 read-requires c κs =
     let f = c .before .before .before .before .pre .0 (c .enum-told .given .1) in
     let i = c .before .before .before .before .pre .1 in
-    (f .0, omega (arith, f .1, i .cdt), omega (arith, f .1, i .wgt), omega (arith, f .1, i .caption))
+    (f .0, omega (arith, f .1, i .cdt), omega (arith, f .1, i .wgt))
 
 returns : tie.Need-returns
 returns c =

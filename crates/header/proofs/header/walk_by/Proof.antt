@@ -30,7 +30,7 @@ returns-2 c =
     let a = c .before .before .before .before .before .args in
     let v = c .before .before .enum-told2 .given .1 in
     let e = c .end .ensures ∙ (λ i. ended (v i) 0 (c .before .none .ensures i)) in
-    (e ∙ (λ i. walkBy (sym v i) (now (a .s)) (a .h) (a .p)), rw e (record { at = zero-le; cdt = zero-le; wgt = zero-le; caption = zero-le; part = zero-le }))
+    (e ∙ (λ i. walkBy (sym v i) (now (a .s)) (a .h) (a .p)), rw e (record { at = zero-le; cdt = zero-le; wgt = zero-le }))
 
 pub walk-by-spec : {M : Type 1} → statement M
 walk-by-spec =

@@ -1,8 +1,7 @@
 -- `header::walk::accept`: each arm is the step of its kind. Assumes nothing.
 use mathlib.Core.Path.{sym, _∙_}
 use denote.Ref.{now}
-use Rattle.header.specs.Places.{setCaption}
-use Rattle.header.specs.Walk.{behind, accepted}
+use Rattle.header.specs.Walk.{accepted}
 use borrow.Author.Needs.{needs}
 use Rattle.header.proofs.walk.accept.Statement.{statement}
 use Rattle.header.proofs.walk.accept.Tie as tie
@@ -19,8 +18,7 @@ returns-2 c =
 
 returns-3 : tie.Need-returns-3
 returns-3 c =
-    let a = c .before .before .before .before .before .args in
-    c .behind3 .ensures ∙ (λ i. behind (a .g) (setCaption (c .before .before .before .caption-place .ensures i) (a .x))) ∙ (λ i. accepted (sym (c .before .enum-told3 .given .1) i) (now (a .s)) (a .g) (a .x))
+    rw (c .before .before .enum-told3 .given .1) (rw (← c .before .before .before .before .is-caption .ensures) (c .behind3 .ensures))
 
 returns-4 : tie.Need-returns-4
 returns-4 c =

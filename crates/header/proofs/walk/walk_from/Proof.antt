@@ -22,7 +22,7 @@ abbrev μ-loop : tie.MeasureT-loop
 
 loop-holds : tie.Need-loop-holds Inv-loop μ-loop
 loop-holds c =
-    rw (c .begin .ensures) (record { at = c .before .before .pre .2; cdt = zero-le; wgt = zero-le; caption = zero-le; part = zero-le }, loop-begins (omega arith))
+    rw (c .begin .ensures) (record { at = c .before .before .pre .2; cdt = zero-le; wgt = zero-le }, loop-begins (omega arith))
 
 step-requires : tie.Need-step-requires Inv-loop μ-loop
 step-requires c κs =

@@ -15,7 +15,7 @@ returns c =
       sy = replicate 4 0;
       gains = replicate 40 0;
       priorities = replicate 40 0;
-      caption = record { there = false; at = 0; size = 0 };
+      caption = false;
       slice = 0;
     }
 

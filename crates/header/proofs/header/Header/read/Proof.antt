@@ -6,12 +6,12 @@ use Rattle.header.proofs.header.Header.read.Tie as tie
 
 returns : tie.Need-returns
 returns c =
-    let a = c .before .before .before .before .before .before .before .before .before .args in
-    let c0 = c .before .before .before .before .before .before .before .component .ensures in
-    let c1 = c .before .before .before .before .before .before .component2 .ensures in
-    let c2 = c .before .before .before .before .before .component3 .ensures in
-    let c3 = c .before .before .before .before .component4 .ensures in
-    let w = c .before .before .before .read .ensures in
+    let a = c .before .before .before .before .before .before .before .before .args in
+    let c0 = c .before .before .before .before .before .before .component .ensures in
+    let c1 = c .before .before .before .before .before .component2 .ensures in
+    let c2 = c .before .before .before .before .component3 .ensures in
+    let c3 = c .before .before .before .component4 .ensures in
+    let w = c .before .before .read .ensures in
     λ i.
     record {
       picture = a .h;
@@ -20,7 +20,7 @@ returns c =
       sy = c0 i .sy ∷ c1 i .sy ∷ c2 i .sy ∷ c3 i .sy ∷ [];
       gains = w i .gains;
       priorities = w i .priorities;
-      caption = c .read2 .ensures i;
+      caption = a .x .caption;
       slice = a .slice;
     }
 
@@ -28,7 +28,6 @@ pub read-spec : {M : Type 1} → statement M
 read-spec =
     tie.close
     (tie.spec
-    (λ c κs. search needs)
     (λ c κs. search needs)
     (λ c κs. search needs)
     (λ c κs. search needs)
