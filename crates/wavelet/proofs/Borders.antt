@@ -1,18 +1,16 @@
 -- The filter of a line within its own Z samples: at each place the neighbours are samples of the line, so what stands past its ends need not be
--- kept. The whole filter is two sweeps in place, over the even samples and then over the odd ones. Assumes nothing.
+-- kept. Assumes nothing.
 use mathlib.Core.Path.{_≡_, refl, sym, ap, _∙_}
 use mathlib.Core.Bool.{Bool, cond}
 use Prim.Native.Nat.{ℕ, zero, suc, _+_, _*_, _-_, _%_, _≤_, _<_}
-use native.Mathlib.Decide.{ℕ-discrete, decLt}
+use native.Mathlib.Decide.{decLt}
 use native.Mathlib.Omega.{arith}
 use borrow.Author.Tests.{lt-ltb, le-ltb, eq-eqb, ne-eqb}
-use lib.Dec.{eqb, ltb}
-use lib.IntN.{ℤ, pos, _+ℤ_, _-ℤ_, +ℤ-comm}
-use lib.Signed.{shrZ}
+use lib.IntN.{pos, _+ℤ_, _-ℤ_}
 use Rattle.whole.specs.Numbers.{gap}
 use Rattle.whole.proofs.Linear.{eqZ, subZ}
-use Rattle.wavelet.specs.Filter.{extended, Steps, even-out, odd-out, filter, samples}
-use Rattle.wavelet.specs.Sweeps.{right, step, swept}
+use Rattle.wavelet.specs.Filter.{extended, Steps, even-out, odd-out, filter}
+use Rattle.wavelet.specs.Runs.{right}
 
 -- a step that takes its two neighbours in either order, as all of ours do
 pub record Even-handed {A : Type 0} (S : Steps A) : Type 0 where
@@ -84,33 +82,3 @@ module _ {A : Type 0} (S : Steps A) (Z : ℕ) (two : 2 ≤ Z) (X : ℕ → A) wh
       ∙ three (S .odd) (extended-in Z two X i h)
       (ap (even-out S Z X) (one-less i (gap i 1) (omega arith)) ∙ sym (filter-even-out (gap i 1) (omega arith)))
       (even-out-right handed i h ∙ sym (filter-even-out (right Z i) (omega arith)))
-
--- ---- two sweeps in place
-
-module _ {A : Type 0} (S : Steps A) (b Z : ℕ) (X : ℕ → A) where
-  pub swept-on : (i : ℕ) → i % 2 ≡ b → swept S b Z X i ≡ step S b (X i) (X (gap i 1)) (X (right Z i))
-  unfolding swept
-  swept-on i e = rw (eq-eqb (i % 2) b e)
-
-  pub swept-off : (i : ℕ) → (i % 2 ≡ b → ⊥) → swept S b Z X i ≡ X i
-  unfolding swept
-  swept-off i e = rw (ne-eqb (i % 2) b e)
-
--- the even samples, and then the odd ones from them, are the filter
-pub sweeps : {A : Type 0} (S : Steps A) → Even-handed S → (Z : ℕ) → 2 ≤ Z → (X : ℕ → A) (i : ℕ) → i < Z → swept S 1 Z (swept S 0 Z X) i ≡ filter S Z X i
-sweeps {A} S handed Z two X i h = pick (ℕ-discrete (i % 2) 0)
-  where
-    first : (j : ℕ) → j < Z → j % 2 ≡ 0 → swept S 0 Z X j ≡ filter S Z X j
-    first j k e = swept-on S 0 Z X j e ∙ sym (filter-even S Z two X j k e)
-
-    pick : Dec (i % 2 ≡ 0) → swept S 1 Z (swept S 0 Z X) i ≡ filter S Z X i
-    pick (yes e) = swept-off S 1 Z (swept S 0 Z X) i (λ o. absurd (omega arith)) ∙ first i h e
-    pick (no e) =
-        swept-on S 1 Z (swept S 0 Z X) i (omega arith)
-        ∙ three (S .odd) (swept-off S 0 Z X i e) (first (gap i 1) (omega arith) (omega arith)) (first (right Z i) (omega arith) (omega arith))
-        ∙ sym (filter-odd S Z two X handed i h (omega arith))
-
--- samples take their neighbours in either order
-pub samples-handed : Even-handed samples
-unfolding samples
-samples-handed = record { swap = λ x l r. ap (λ (s : ℤ). x -ℤ shrZ (s +ℤ pos 2) 4) (+ℤ-comm l r) }

@@ -1,17 +1,25 @@
--- The two loops of Table E.1 in place: with depth d reached, the band LL of that depth stands on its grid, and the turns that are left make of it
--- what all turns make of the first. Assumes nothing.
-use mathlib.Core.Path.{_≡_, refl, sym, ap, ap₂, _∙_}
+-- A loop of Table E.1 in place: with depth d reached, the band LL of that depth stands in its places, and the turns that are left make of it
+-- what all turns make of the first. Of one row in the first loop, and of all samples in the second. Assumes nothing.
+use mathlib.Core.Path.{_≡_, refl, sym, ap, _∙_}
 use mathlib.Core.List.{List}
-use Prim.Native.Nat.{ℕ, zero, suc, _+_, _*_, _-_, _^_, _≤_, _<_, min}
-use native.Mathlib.Nat.{pow-zero, pow-suc, mul-assoc, mul-comm, mul-one, le-trans, le-mul-of-pos-right, one-le-pow, mul-le-mul-left, pow-le-pow-right}
+use Prim.Native.Nat.{ℕ, suc, _+_, _*_, _-_, _/_, _%_, _^_, _≤_, _<_, min}
+use native.Mathlib.Nat.{pow-suc, mul-assoc, mul-comm, mul-one, mul-mod-left, div-add-mod', le-trans, le-mul-of-pos-right, one-le-pow, mul-le-mul-left, pow-le-pow-right}
+use native.Mathlib.Decide.{ℕ-discrete}
 use native.Mathlib.Omega.{arith}
 use lib.Dec.{lit≤}
-use lib.IntN.{ℤ}
-use Rattle.wavelet.specs.Transform.{LL, Band, low-size, down, table-E1, inverse}
-use Rattle.wavelet.specs.Places.{sample-at, bands, Sheet, Component, Transformed}
-use Rattle.wavelet.specs.Grids.{Gridded, Pass, SamplesWithin, Descended, Finished, rows-of, columns-of, across-turn, both-turn}
-use Rattle.wavelet.proofs.Levels.{across-level, both-level, low-place}
-use Rattle.wavelet.proofs.Passes.{rows-size, columns-size, samples-le}
+use lib.Pow.{pow-pos}
+use lib.IntN.{ℤ, natAbs}
+use lib.ListN.{length}
+use Rattle.whole.specs.Cells.{cell}
+use Rattle.wavelet.specs.Filter.{Steps, filter}
+use Rattle.wavelet.specs.Transform.{Band, low-size, down, table-E1, inverse}
+use Rattle.wavelet.specs.Places.{sample-at, place, Component, TransformedBy}
+use Rattle.wavelet.specs.Lines.{line, OntoLine, Line}
+use Rattle.wavelet.specs.Grids.{Gridded, Pass, Row, SamplesWithin, RowLevels, AcrossLevels, BothLevels, row-turn, both-turn, level-band}
+use Rattle.wavelet.proofs.Halves.{below-size, size-above}
+use Rattle.wavelet.proofs.Tame.{Tame, thrice}
+use Rattle.wavelet.proofs.Levels.{row-level, both-level, low-place}
+use Rattle.wavelet.proofs.Passes.{level-size}
 
 -- the next turn of a loop that counts down
 pub down-turn : {S : Type 0} (turn : ℕ → S → S) (to : ℕ) {d e : ℕ} (s : S) → d ≡ suc e → to < d → down turn to (d - to) s ≡ down turn to (e - to) (turn d s)
@@ -30,113 +38,147 @@ down-none turn to d s h =
 more-room : (b k m n : ℕ) → m ≡ suc n → b * k ^ m ≡ k * b * k ^ n
 more-room b k m n e = rw (e, pow-suc, ← mul-assoc b (k ^ n) k) (mul-comm (b * k ^ n) k ∙ sym (mul-assoc k b (k ^ n)))
 
-used-up : (b k m : ℕ) {B : ℕ} → m ≡ 0 → b * k ^ m ≤ B → b ≤ B
-used-up b k m e h = rw (e, pow-zero, mul-one) at h
-
 -- the invariant: sizes grow by k at most with each turn, and have room for the turns that are left
-pub record Descending (w h : ℕ) (row : ℕ → ℕ) (turn : ℕ → Band ℤ → Band ℤ) (to n : ℕ) (first : Band ℤ) (k B d : ℕ) (l₀ l : List ℤ) : Type 0 where
-  pub low : Band ℤ
+pub record Descending {X : Type 0} (Stands : ℕ → X → Type 0) (Sized : ℕ → Type 0) (turn : ℕ → X → X) (to n : ℕ) (first : X) (k B d : ℕ) : Type 0 where
+  pub low : X
   pub least : to ≤ d
   pub most : d ≤ to + n
-  pub stands : Gridded w h (2 ^ d) (2 ^ row d) low l₀ l
+  pub stands : Stands d low
   pub left : down turn to (d - to) low ≡ down turn to n first
   pub bound : ℕ
-  pub within : SamplesWithin w h bound l
+  pub within : Sized bound
   pub room : bound * k ^ (d - to) ≤ B
 
-module _ {w h : ℕ} {row : ℕ → ℕ} {turn : ℕ → Band ℤ → Band ℤ} {to n : ℕ} {first : Band ℤ} {k B : ℕ} {l₀ l : List ℤ} where
-  pub descent-begins : {d b : ℕ} → d ≡ to + n → Gridded w h (2 ^ d) (2 ^ row d) first l₀ l → SamplesWithin w h b l → b * k ^ n ≤ B → Descending w h row turn to n first k B d l₀ l
-  descent-begins {d} {b} e g s r =
+module _ {X : Type 0} {Stands : ℕ → X → Type 0} {Sized : ℕ → Type 0} {turn : ℕ → X → X} {to n : ℕ} {first : X} {k B : ℕ} where
+  pub descent-begins : (d b : ℕ) → d ≡ to + n → Stands d first → Sized b → b * k ^ n ≤ B → Descending Stands Sized turn to n first k B d
+  descent-begins d b e g s r =
       let p : d - to ≡ n = omega arith in
       record { low = first; least = omega arith; most = omega arith; stands = g; left = rw p refl; bound = b; within = s; room = rw p r }
 
-  pub descent-goes-on : {e d : ℕ} {l′ : List ℤ} (I : Descending w h row turn to n first k B d l₀ l) → d ≡ suc e → to < d
-      → Gridded w h (2 ^ e) (2 ^ row e) (turn d (I .low)) l₀ l′ → SamplesWithin w h (k * I .bound) l′ → Descending w h row turn to n first k B e l₀ l′
-  descent-goes-on {e} {d} I p h g s = record {
-    low = turn d (I .low);
-    least = omega arith;
-    most = omega (arith, I .most);
-    stands = g;
-    left = sym (down-turn turn to (I .low) p h) ∙ I .left;
-    bound = k * I .bound;
-    within = s;
-    room = rw (more-room (I .bound) k (d - to) (e - to) (omega arith)) at (I .room);
-  }
+  module _ {d : ℕ} (I : Descending Stands Sized turn to n first k B d) where
+    pub descent-goes-on : {Stands′ : ℕ → X → Type 0} {Sized′ : ℕ → Type 0} (e : ℕ) → d ≡ suc e → to < d
+        → Stands′ e (turn d (I .low)) → Sized′ (k * I .bound) → Descending Stands′ Sized′ turn to n first k B e
+    descent-goes-on e p h g s = record {
+      low = turn d (I .low);
+      least = omega arith;
+      most = omega (arith, I .most);
+      stands = g;
+      left = sym (down-turn turn to (I .low) p h) ∙ I .left;
+      bound = k * I .bound;
+      within = s;
+      room = rw (more-room (I .bound) k (d - to) (e - to) (omega arith)) at (I .room);
+    }
 
-  pub descent-ends : {d : ℕ} → Descending w h row turn to n first k B d l₀ l → d ≤ to → Descended w h (2 ^ to) (2 ^ row to) turn to n first B l₀ l
-  descent-ends {d} I h =
-      let p : d ≡ to = omega (arith, I .least) in
-      record {
-        made = rw (← sym (down-none turn to d (I .low) h) ∙ I .left, ← p) (I .stands);
-        within = samples-le (I .within) (used-up (I .bound) k (d - to) (omega arith) (I .room));
+    pub descent-ends : d ≤ to → Stands to (down turn to n first)
+    descent-ends h =
+        let p : d ≡ to = omega (arith, I .least) in
+        rw (← sym (down-none turn to d (I .low) h) ∙ I .left, ← p) (I .stands)
+
+    pub descent-bound : 0 < k → I .bound ≤ B
+    descent-bound up = le-trans (le-mul-of-pos-right (I .bound) (one-le-pow (d - to) k up)) (I .room)
+
+-- ---- the levels of one row
+
+abbrev RowStands : ℕ → ℕ → List ℤ → List ℤ → ℕ → (ℕ → ℤ) → Type 0
+RowStands w base l₀ l d low = OntoLine base (2 ^ d) (low-size w d) low l₀ l
+
+abbrev RowSized : ℕ → ℕ → List ℤ → ℕ → Type 0
+RowSized w base l B = (c : ℕ) → c < w → natAbs (cell l (base + c)) ≤ B
+
+abbrev pub RowDescending : Steps ℤ → ℕ → ℕ → ℕ → ℕ → List ℤ → List ℤ → ℕ → Type 0
+RowDescending S w base nx ny l₀ l =
+    Descending (RowStands w base l₀ l) (RowSized w base l) (row-turn S w (line base 1 l₀)) ny (nx - ny) (λ i. line base 1 l₀ (place 0 nx i)) 3 (2 ^ 48)
+
+module _ {w base nx ny : ℕ} {l₀ : List ℤ} (R : Row w base nx ny (2 ^ 40) l₀) where
+  row-room : 2 ^ 40 * 3 ^ (nx - ny) ≤ 2 ^ 48
+  row-room = le-trans (mul-le-mul-left (2 ^ 40) (pow-le-pow-right {n = 3} (omega arith) {i = nx - ny} {j = 5} (omega (arith, R .levels)))) (lit≤ tt)
+
+  pub row-begins : (S : Steps ℤ) → RowDescending S w base nx ny l₀ l₀ nx
+  row-begins S =
+      descent-begins nx (2 ^ 40) (omega (arith, R .fewer))
+      (record { same = refl; on = λ i h. ap (λ (c : ℕ). cell l₀ (base + c)) (low-place nx i ∙ sym (mul-one (place 0 nx i))); off = λ j never. refl })
+      (R .most) row-room
+
+  module _ {S : Steps ℤ} (T : Tame S) {l : List ℤ} {d : ℕ} (I : RowDescending S w base nx ny l₀ l d) where
+    pub row-length : length l ≡ length l₀
+    row-length = I .stands .same
+
+    module _ (above : ny < d) where
+      depth : d - 1 < nx
+      depth = omega (arith, I .most, R .fewer)
+
+      pub row-line : Line base (2 ^ (d - 1)) (low-size w (d - 1)) (2 ^ 60) l
+      row-line = record {
+        two = R .two (d - 1) depth;
+        stride-up = pow-pos (d - 1);
+        inside = λ k h. omega (arith, row-length, R .inside, below-size (pow-pos (d - 1)) w k h);
+        most = λ k h. omega (arith, I .within (k * 2 ^ (d - 1)) (below-size (pow-pos (d - 1)) w k h), descent-bound I (omega arith));
       }
 
-  pub descent-size : {d : ℕ} → Descending w h row turn to n first k B d l₀ l → 0 < k → SamplesWithin w h B l
-  descent-size {d} I up = samples-le (I .within) (le-trans (le-mul-of-pos-right (I .bound) (one-le-pow (d - to) k up)) (I .room))
+      pub row-goes-on : {l′ : List ℤ} → OntoLine base (2 ^ (d - 1)) (low-size w (d - 1)) (filter S (low-size w (d - 1)) (line base (2 ^ (d - 1)) l)) l l′
+          → RowDescending S w base nx ny l₀ l′ (d - 1)
+      row-goes-on {l′} pass =
+          let p : d ≡ suc (d - 1) = omega arith in
+          descent-goes-on I (d - 1) p above
+          (rw (← p) at (row-level S w base (d - 1) (R .two (d - 1) depth) (rw (p, pow-suc) at (I .stands)) pass))
+          (λ c hc. pick c hc (ℕ-discrete (c % 2 ^ (d - 1)) 0))
+        where
+          grown : (k : ℕ) → k < low-size w (d - 1) → natAbs (line base (2 ^ (d - 1)) l′ k) ≤ 3 * I .bound
+          grown k h =
+              rw (pass .on k h)
+              (thrice T (low-size w (d - 1)) (R .two (d - 1) depth) (line base (2 ^ (d - 1)) l) (λ i hi. I .within (i * 2 ^ (d - 1)) (below-size (pow-pos (d - 1)) w i hi)) k h)
 
--- the coarsest band LL, in its place at entry
-pub standing : (w h nx ny : ℕ) (l : List ℤ) → Gridded w h (2 ^ nx) (2 ^ ny) (bands (sample-at w l) LL nx ny) l l
-standing w h nx ny l = record { same = refl; on = λ x y hx hy. ap₂ (sample-at w l) (low-place nx x) (low-place ny y); off = λ c r hc hr never. refl }
+          pick : (c : ℕ) → c < w → Dec (c % 2 ^ (d - 1) ≡ 0) → natAbs (cell l′ (base + c)) ≤ 3 * I .bound
+          pick c hc (yes e) =
+              let m : c ≡ c / 2 ^ (d - 1) * 2 ^ (d - 1) = omega (arith, div-add-mod' c (2 ^ (d - 1))) in
+              rw m (grown (c / 2 ^ (d - 1)) (size-above (pow-pos (d - 1)) w (c / 2 ^ (d - 1)) (omega arith)))
+          pick c hc (no o) =
+              omega (arith, ap natAbs (pass .off (base + c) (λ k h e. let m : c ≡ k * 2 ^ (d - 1) = omega arith in o (rw m (mul-mod-left k (2 ^ (d - 1)))))), I .within c hc)
 
--- ---- a turn of either loop
+    pub row-ends : d ≤ ny → RowLevels S w base nx ny (2 ^ 48) l₀ l
+    row-ends h = record { made = descent-ends I h; within = λ c hc. le-trans (I .within c hc) (descent-bound I (omega arith)) }
 
-module _ {w h : ℕ} {len : ℕ} (sheet : Sheet w h len) {d e : ℕ} (p : d ≡ suc e) where
-  same-depth : suc e - 1 ≡ e
-  same-depth = omega arith
+-- ---- the levels of both directions
 
-  -- the rows alone: sizes grow by three
-  pub across-goes-on : {ny n B : ℕ} {first : Band ℤ} {l₀ l l′ : List ℤ} → Descending w h (λ _. ny) (across-turn w h ny l₀) ny n first 3 B d l₀ l → ny < d → 2 ≤ low-size w e
-      → Gridded w h (2 ^ e) (2 ^ ny) (rows-of w (2 ^ e) (2 ^ ny) l) l l′ → Descending w h (λ _. ny) (across-turn w h ny l₀) ny n first 3 B e l₀ l′
-  across-goes-on {ny} I above two rows =
-      descent-goes-on I p above (rw (p, same-depth) (across-level w h e ny two (rw (p, pow-suc) at (I .stands)) rows)) (rows-size sheet e ny (I .within) two rows)
-
-  -- both directions: sizes grow by three and by three
-  pub both-goes-on : {n B : ℕ} {first : Band ℤ} {l₀ l l₁ l₂ : List ℤ} → Descending w h (λ d. d) (both-turn w h l₀) 0 n first 9 B d l₀ l → 2 ≤ low-size w e → 2 ≤ low-size h e
-      → Gridded w h (2 ^ e) (2 ^ e) (rows-of w (2 ^ e) (2 ^ e) l) l l₁ → Gridded w h (2 ^ e) (2 ^ e) (columns-of w h (2 ^ e) (2 ^ e) l₁) l₁ l₂
-      → Descending w h (λ d. d) (both-turn w h l₀) 0 n first 9 B e l₀ l₂
-  both-goes-on I two two-down rows columns =
-      descent-goes-on I p (omega arith) (rw (p, same-depth) (both-level w h e two two-down (rw (p, pow-suc) at (I .stands)) rows columns))
-      (nine (I .bound) (columns-size sheet e e (rows-size sheet e e (I .within) two rows) two-down columns))
-    where
-      nine : (b : ℕ) {l : List ℤ} → SamplesWithin w h (3 * (3 * b)) l → SamplesWithin w h (9 * b) l
-      nine b s = record { most = λ c r hc hr. omega (arith, s .most c r hc hr) }
-
--- ---- what the first loop asks
+abbrev pub BothDescending : Steps ℤ → ℕ → ℕ → ℕ → Band ℤ → List ℤ → List ℤ → ℕ → Type 0
+BothDescending S w h ny low l₀ l =
+    Descending (λ (d : ℕ) (band : Band ℤ). Gridded w h (2 ^ d) (2 ^ d) band l₀ l) (λ (B : ℕ). SamplesWithin w h B l) (both-turn S w h l₀) 0 ny low 9 (2 ^ 55)
 
 module _ {w h nx ny len : ℕ} (C : Component w h nx ny len) where
-  pub across-room : 2 ^ 40 * 3 ^ (nx - ny) ≤ 2 ^ 48
-  across-room = le-trans (mul-le-mul-left (2 ^ 40) (pow-le-pow-right {n = 3} (omega arith) {i = nx - ny} {j = 5} (omega (arith, C .levels)))) (lit≤ tt)
-
-  pub both-room : 2 ^ 48 * 9 ^ ny ≤ 2 ^ 55
+  both-room : 2 ^ 48 * 9 ^ ny ≤ 2 ^ 55
   both-room = le-trans (mul-le-mul-left (2 ^ 48) (pow-le-pow-right {n = 9} (omega arith) {i = ny} {j = 2} (C .fewer))) (lit≤ tt)
 
-  pub across-pass : {d len′ : ℕ} → len′ ≡ len → ny < d → d ≤ nx → Pass w h (d - 1) ny (low-size w (d - 1)) len′
-  across-pass {d} e above most = record {
+  pub both-begins : (S : Steps ℤ) {l₀ l : List ℤ} {low : Band ℤ} → Gridded w h (2 ^ ny) (2 ^ ny) low l₀ l → SamplesWithin w h (2 ^ 48) l → BothDescending S w h ny low l₀ l ny
+  both-begins S g s = descent-begins ny (2 ^ 48) (omega arith) g s both-room
+
+  pub both-pass : {d len′ : ℕ} → len′ ≡ len → 0 < d → d ≤ ny → Pass w h (d - 1) len′
+  both-pass {d} e above most = record {
     sheet = rw e (C .sheet);
-    across-depth = omega (arith, C .levels);
-    down-depth = omega (arith, C .fewer);
-    two = C .parts .two-across (d - 1) (omega arith);
+    depth = omega (arith, C .fewer);
+    two-across = C .parts .two-across (d - 1) (omega (arith, C .parts .no-more));
+    two-down = C .parts .two-down (d - 1) (omega arith);
   }
 
-  -- and the second
-  pub both-pass : {d len′ : ℕ} → len′ ≡ len → 0 < d → d ≤ ny → Pass w h (d - 1) (d - 1) (low-size w (d - 1)) len′ × (2 ≤ low-size h (d - 1))
-  both-pass {d} e above most = (
-    record {
-      sheet = rw e (C .sheet);
-      across-depth = omega (arith, C .fewer);
-      down-depth = omega (arith, C .fewer);
-      two = C .parts .two-across (d - 1) (omega (arith, C .parts .no-more));
-    },
-    C .parts .two-down (d - 1) (omega arith),
-  )
+  module _ {S : Steps ℤ} (T : Tame S) {l₀ l l′ : List ℤ} {low : Band ℤ} {d : ℕ} (I : BothDescending S w h ny low l₀ l d) (above : 0 < d) where
+    pub both-goes-on : Gridded w h (2 ^ (d - 1)) (2 ^ (d - 1)) (level-band S w h (d - 1) l) l l′ → BothDescending S w h ny low l₀ l′ (d - 1)
+    both-goes-on pass =
+        let p : d ≡ suc (d - 1) = omega arith in
+        let two : Pass w h (d - 1) len = both-pass refl above (omega (arith, I .most)) in
+        descent-goes-on I (d - 1) p above
+        (rw (← p) at (both-level S w h (d - 1) (two .two-across) (two .two-down) (rw (p, pow-suc) at (I .stands)) pass))
+        (level-size two T (I .within) pass)
 
   -- the two loops make Table E.1's output
-  pub table-made : {l l₁ l₂ : List ℤ} → Descended w h (2 ^ ny) (2 ^ ny) (across-turn w h ny l) ny (nx - ny) (bands (sample-at w l) LL nx ny) (2 ^ 48) l l₁ → Finished w h ny l₁ l₂ → Transformed w h nx ny l l₂
+  pub table-made : (S : Steps ℤ) {l l₁ l₂ : List ℤ} → AcrossLevels S w h nx ny (2 ^ 48) l l₁ → BothLevels S w h ny l₁ l₂ → TransformedBy S w h nx ny l l₂
   unfolding inverse table-E1
-  table-made {l} {l₁} {l₂} first second =
+  table-made S {l} {l₁} {l₂} first second =
       let e : min nx ny ≡ ny = omega (arith, C .parts .no-more) in
       let g = second .made (first .made) in
       record {
         same = g .same;
         made = λ x y hx hy. rw e (rw (mul-one, mul-one) at (g .on x y (rw mul-one hx) (rw mul-one hy)));
       }
+
+-- a component's cells, with nothing done yet
+pub standing : (w h d : ℕ) (l : List ℤ) → Gridded w h (2 ^ d) (2 ^ d) (λ x y. sample-at w l (x * 2 ^ d) (y * 2 ^ d)) l l
+standing w h d l = record { same = refl; on = λ x y hx hy. refl; off = λ c r hc hr never. refl }

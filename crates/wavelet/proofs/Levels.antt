@@ -1,20 +1,22 @@
 -- A level of Table E.1 in place: where the band LL stands on the grid of its depth and every other coefficient is still in its place, filtering
--- the lines of the finer grid leaves the next LL there. Assumes nothing.
+-- the lines of the finer grid leaves the next LL there. Of one row, and of both directions. Assumes nothing.
 use mathlib.Core.Path.{_≡_, sym, ap, ap₂, _∙_}
 use mathlib.Core.List.{List}
-use Prim.Native.Nat.{ℕ, zero, suc, _+_, _*_, _-_, _/_, _%_, _^_, _≤_, _<_}
-use native.Mathlib.Nat.{mul-assoc, mul-comm, add-mul, one-mul, zero-mul, add-zero, pow-suc, eq-of-mul-eq-mul-right}
+use Prim.Native.Nat.{ℕ, suc, _+_, _*_, _-_, _/_, _%_, _^_, _≤_, _<_}
+use native.Mathlib.Nat.{mul-assoc, mul-comm, mul-one, add-mul, one-mul, zero-mul, add-zero, pow-suc, eq-of-mul-eq-mul-right}
 use native.Mathlib.Decide.{ℕ-discrete}
 use native.Mathlib.Omega.{arith}
 use borrow.Author.Tests.{eq-eqb, ne-eqb}
 use lib.IntN.{ℤ}
 use lib.Pow.{pow-pos}
 use Rattle.whole.specs.Numbers.{ceilDiv}
-use Rattle.wavelet.specs.Filter.{filter, samples}
-use Rattle.wavelet.specs.Transform.{Kind, LL, HL, LH, HH, Band, woven, hor-transform, ver-transform, low-size}
+use Rattle.whole.specs.Cells.{cell}
+use Rattle.wavelet.specs.Filter.{Steps, filter}
+use Rattle.wavelet.specs.Transform.{Kind, HL, LH, HH, Band, woven, hor-transform, ver-transform, low-size}
 use Rattle.wavelet.specs.Bands.{τx, τy}
 use Rattle.wavelet.specs.Places.{sample-at, bands, place}
-use Rattle.wavelet.specs.Grids.{Gridded, rows-of, columns-of}
+use Rattle.wavelet.specs.Lines.{line, OntoLine}
+use Rattle.wavelet.specs.Grids.{Gridded, level-band, row-turn}
 use Rattle.wavelet.proofs.Halves.{below-size, size-above}
 use Rattle.wavelet.proofs.Related.{filter-cong}
 
@@ -51,8 +53,8 @@ module _ (s w : ℕ) (f A B : ℕ → ℤ) (even : (j : ℕ) → j * (s * 2) < w
           rw (ne-eqb (i % 2) 0 e) (ap f p ∙ odd (i / 2) (omega arith))
 
   -- and so is its filter
-  filter-woven : 0 < s → 2 ≤ ceilDiv w s → (i : ℕ) → i * s < w → filter samples (ceilDiv w s) (λ k. f (k * s)) i ≡ filter samples (ceilDiv w s) (woven A B) i
-  filter-woven up two i h = filter-cong samples (ceilDiv w s) two (λ k. f (k * s)) (woven A B) (λ k k<. woven-of k (below-size up w k k<)) i (size-above up w i h)
+  filter-woven : (S : Steps ℤ) → 0 < s → 2 ≤ ceilDiv w s → (i : ℕ) → i * s < w → filter S (ceilDiv w s) (λ k. f (k * s)) i ≡ filter S (ceilDiv w s) (woven A B) i
+  filter-woven S up two i h = filter-cong S (ceilDiv w s) two (λ k. f (k * s)) (woven A B) (λ k k<. woven-of k (below-size up w k k<)) i (size-above up w i h)
 
 -- ---- where a band's coefficients stand
 
@@ -72,64 +74,71 @@ high-place d i =
 even-place : (d i : ℕ) → i * (2 ^ d * 2) ≡ place 0 (suc d) i
 even-place d i = rw (← pow-suc 2 d) (low-place (suc d) i)
 
--- ---- a level of the rows alone: on every 2 ^ n-th row, from depth d + 1 to d
+-- ---- a level of one row alone, from depth d + 1 to d
 
-module _ (w h d n : ℕ) {low : Band ℤ} {l₀ l l′ : List ℤ} (two : 2 ≤ low-size w d) (before : Gridded w h (2 ^ d * 2) (2 ^ n) low l₀ l) (rows : Gridded w h (2 ^ d) (2 ^ n) (rows-of w (2 ^ d) (2 ^ n) l) l l′) where
-  pub across-level : Gridded w h (2 ^ d) (2 ^ n) (hor-transform samples (low-size w d) low (bands (sample-at w l₀) HL (suc d) n)) l₀ l′
-  unfolding hor-transform
-  across-level = record {
-    same = rows .same ∙ before .same;
-    on = λ x y hx hy. rows .on x y hx hy
-        ∙ filter-woven (2 ^ d) w (λ c. sample-at w l c (y * 2 ^ n)) (λ i. low i y) (λ i. bands (sample-at w l₀) HL (suc d) n i y)
-        (λ j hj. before .on j y hj hy)
-        (λ j hj. before .off (j * (2 ^ d * 2) + 2 ^ d) (y * 2 ^ n) hj hy (λ x′ y′ ex ey. between (2 ^ d) j x′ (pow-pos d) ex) ∙ stands w l₀ HL (suc d) n j y (high-place d j) (low-place n y))
-        (pow-pos d) two x hx;
-    off = λ c r hc hr never. rows .off c r hc hr never ∙ before .off c r hc hr (λ x y ex ey. never (x * 2) y (ex ∙ finer (2 ^ d) x) ey);
-  }
+module _ (S : Steps ℤ) (w base d : ℕ) {low : ℕ → ℤ} {l₀ l l′ : List ℤ} (two : 2 ≤ low-size w d)
+    (before : OntoLine base (2 ^ d * 2) (ceilDiv w (2 ^ d * 2)) low l₀ l)
+    (pass : OntoLine base (2 ^ d) (low-size w d) (filter S (low-size w d) (line base (2 ^ d) l)) l l′) where
+  twice-up : 0 < 2 ^ d * 2
+  twice-up = omega (arith, pow-pos d)
+
+  high-is : (j : ℕ) → j * (2 ^ d * 2) + 2 ^ d < w → cell l (base + (j * (2 ^ d * 2) + 2 ^ d)) ≡ line base 1 l₀ (place 1 (suc d) j)
+  high-is j h =
+      before .off (base + (j * (2 ^ d * 2) + 2 ^ d)) (λ i b e. between (2 ^ d) j i (pow-pos d) (omega arith))
+      ∙ ap (λ (c : ℕ). cell l₀ (base + c)) (high-place d j ∙ sym (mul-one (place 1 (suc d) j)))
+
+  pub row-level : OntoLine base (2 ^ d) (low-size w d) (row-turn S w (line base 1 l₀) (suc d) low) l₀ l′
+  row-level =
+      let less : suc d - 1 ≡ d = omega arith in
+      record {
+        same = pass .same ∙ before .same;
+        on = λ k h. pass .on k h
+            ∙ filter-woven (2 ^ d) w (λ c. cell l (base + c)) low (λ j. line base 1 l₀ (place 1 (suc d) j)) (λ j hj. before .on j (size-above twice-up w j hj)) high-is
+            S (pow-pos d) two k (below-size (pow-pos d) w k h)
+            ∙ ap (λ (n : ℕ). filter S (low-size w n) (woven low (λ j. line base 1 l₀ (place 1 (suc d) j))) k) (sym less);
+        off = λ j never. pass .off j never
+            ∙ before .off j (λ i b e. never (i * 2) (size-above (pow-pos d) w (i * 2) (rw (← finer (2 ^ d) i) (below-size twice-up w i b))) (e ∙ ap (λ (c : ℕ). base + c) (finer (2 ^ d) i)));
+      }
 
 -- ---- a level of both directions, from depth d + 1 to d
 
-module _ (w h d : ℕ) {low : Band ℤ} {l₀ l l₁ l₂ : List ℤ} (two : 2 ≤ low-size w d) (two-down : 2 ≤ low-size h d)
-    (before : Gridded w h (2 ^ d * 2) (2 ^ d * 2) low l₀ l)
-    (rows : Gridded w h (2 ^ d) (2 ^ d) (rows-of w (2 ^ d) (2 ^ d) l) l l₁)
-    (columns : Gridded w h (2 ^ d) (2 ^ d) (columns-of w h (2 ^ d) (2 ^ d) l₁) l₁ l₂) where
-  -- a row r of the grid after the pass along the rows
-  row-on : (x y : ℕ) {r : ℕ} → r ≡ y * 2 ^ d → x * 2 ^ d < w → r < h → sample-at w l₁ (x * 2 ^ d) r ≡ filter samples (low-size w d) (λ i. sample-at w l (i * 2 ^ d) r) x
-  row-on x y e hx hr = rw e (rows .on x y hx (rw e at hr))
+module _ (S : Steps ℤ) (w h d : ℕ) {low : Band ℤ} {l₀ l l′ : List ℤ} (two : 2 ≤ low-size w d) (two-down : 2 ≤ low-size h d)
+    (before : Gridded w h (2 ^ d * 2) (2 ^ d * 2) low l₀ l) (pass : Gridded w h (2 ^ d) (2 ^ d) (level-band S w h d l) l l′) where
+  -- row r of the grid, filtered
+  abbrev row : ℕ → ℕ → ℤ
+  row x r = filter S (low-size w d) (λ i. sample-at w l (i * 2 ^ d) r) x
 
   abbrev over : Band ℤ
-  over = hor-transform samples (low-size w d) low (bands (sample-at w l₀) HL (suc d) (suc d))
+  over = hor-transform S (low-size w d) low (bands (sample-at w l₀) HL (suc d) (suc d))
 
   abbrev under : Band ℤ
-  under = hor-transform samples (low-size w d) (bands (sample-at w l₀) LH (suc d) (suc d)) (bands (sample-at w l₀) HH (suc d) (suc d))
+  under = hor-transform S (low-size w d) (bands (sample-at w l₀) LH (suc d) (suc d)) (bands (sample-at w l₀) HH (suc d) (suc d))
 
-  even-row : (x j : ℕ) → x * 2 ^ d < w → j * (2 ^ d * 2) < h → sample-at w l₁ (x * 2 ^ d) (j * (2 ^ d * 2)) ≡ over x j
+  even-row : (x j : ℕ) → x * 2 ^ d < w → j * (2 ^ d * 2) < h → row x (j * (2 ^ d * 2)) ≡ over x j
   unfolding hor-transform
   even-row x j hx hj =
-      row-on x (j * 2) (finer (2 ^ d) j) hx hj
-      ∙ filter-woven (2 ^ d) w (λ c. sample-at w l c (j * (2 ^ d * 2))) (λ i. low i j) (λ i. bands (sample-at w l₀) HL (suc d) (suc d) i j)
+      filter-woven (2 ^ d) w (λ c. sample-at w l c (j * (2 ^ d * 2))) (λ i. low i j) (λ i. bands (sample-at w l₀) HL (suc d) (suc d) i j)
       (λ i hi. before .on i j hi hj)
       (λ i hi. before .off (i * (2 ^ d * 2) + 2 ^ d) (j * (2 ^ d * 2)) hi hj (λ x′ y′ ex ey. between (2 ^ d) i x′ (pow-pos d) ex) ∙ stands w l₀ HL (suc d) (suc d) i j (high-place d i) (even-place d j))
-      (pow-pos d) two x hx
+      S (pow-pos d) two x hx
 
-  odd-row : (x j : ℕ) → x * 2 ^ d < w → j * (2 ^ d * 2) + 2 ^ d < h → sample-at w l₁ (x * 2 ^ d) (j * (2 ^ d * 2) + 2 ^ d) ≡ under x j
+  odd-row : (x j : ℕ) → x * 2 ^ d < w → j * (2 ^ d * 2) + 2 ^ d < h → row x (j * (2 ^ d * 2) + 2 ^ d) ≡ under x j
   unfolding hor-transform
   odd-row x j hx hj =
-      row-on x (j * 2 + 1) (finer-odd (2 ^ d) j) hx hj
-      ∙ filter-woven (2 ^ d) w (λ c. sample-at w l c (j * (2 ^ d * 2) + 2 ^ d)) (λ i. bands (sample-at w l₀) LH (suc d) (suc d) i j) (λ i. bands (sample-at w l₀) HH (suc d) (suc d) i j)
+      filter-woven (2 ^ d) w (λ c. sample-at w l c (j * (2 ^ d * 2) + 2 ^ d)) (λ i. bands (sample-at w l₀) LH (suc d) (suc d) i j) (λ i. bands (sample-at w l₀) HH (suc d) (suc d) i j)
       (λ i hi. still (i * (2 ^ d * 2)) hi ∙ stands w l₀ LH (suc d) (suc d) i j (even-place d i) (high-place d j))
       (λ i hi. still (i * (2 ^ d * 2) + 2 ^ d) hi ∙ stands w l₀ HH (suc d) (suc d) i j (high-place d i) (high-place d j))
-      (pow-pos d) two x hx
+      S (pow-pos d) two x hx
     where
       still : (c : ℕ) → c < w → sample-at w l c (j * (2 ^ d * 2) + 2 ^ d) ≡ sample-at w l₀ c (j * (2 ^ d * 2) + 2 ^ d)
       still c hc = before .off c (j * (2 ^ d * 2) + 2 ^ d) hc hj (λ x′ y′ ex ey. between (2 ^ d) j y′ (pow-pos d) ey)
 
-  pub both-level : Gridded w h (2 ^ d) (2 ^ d) (ver-transform samples (low-size h d) over under) l₀ l₂
+  pub both-level : Gridded w h (2 ^ d) (2 ^ d) (ver-transform S (low-size h d) over under) l₀ l′
   unfolding ver-transform
   both-level = record {
-    same = columns .same ∙ rows .same ∙ before .same;
-    on = λ x y hx hy. columns .on x y hx hy
-        ∙ filter-woven (2 ^ d) h (λ r. sample-at w l₁ (x * 2 ^ d) r) (over x) (under x) (λ j hj. even-row x j hx hj) (λ j hj. odd-row x j hx hj) (pow-pos d) two-down y hy;
-    off = λ c r hc hr never. columns .off c r hc hr never ∙ rows .off c r hc hr never
+    same = pass .same ∙ before .same;
+    on = λ x y hx hy. pass .on x y hx hy
+        ∙ filter-woven (2 ^ d) h (row x) (over x) (under x) (λ j hj. even-row x j hx hj) (λ j hj. odd-row x j hx hj) S (pow-pos d) two-down y hy;
+    off = λ c r hc hr never. pass .off c r hc hr never
         ∙ before .off c r hc hr (λ x y ex ey. never (x * 2) (y * 2) (ex ∙ finer (2 ^ d) x) (ey ∙ finer (2 ^ d) y));
   }

@@ -1,9 +1,9 @@
--- A pass over the lines of a component's grid: its cells are the samples of that grid, no two lines share one, and sizes grow by three at most.
+-- The cells of a component's grid as samples: a level over them, no two of them the same, and sizes that grow by three at most with each filter.
 -- Assumes nothing.
 use mathlib.Core.Path.{_≡_, sym, ap, _∙_}
 use mathlib.Core.List.{List}
-use Prim.Native.Nat.{ℕ, _+_, _*_, _-_, _/_, _%_, _^_, _≤_, _<_}
-use native.Mathlib.Nat.{mul-assoc, mul-comm, add-comm, mul-pos, mul-mod-left, le-trans, div-add-mod', eq-of-mul-eq-mul-right}
+use Prim.Native.Nat.{ℕ, _+_, _*_, _/_, _%_, _^_, _≤_, _<_}
+use native.Mathlib.Nat.{mul-assoc, mul-comm, mul-pos, mul-mod-left, le-trans, div-add-mod', eq-of-mul-eq-mul-right}
 use native.Mathlib.Decide.{ℕ-discrete}
 use native.Mathlib.Omega.{arith}
 use lib.Pow.{pow-pos, shl-exact}
@@ -11,138 +11,96 @@ use lib.Arith.{digits-lt, digits-div, digits-mod}
 use lib.IntN.{ℤ, natAbs}
 use Rattle.whole.specs.Cells.{cell}
 use Rattle.whole.proofs.Machine.{one-shl}
-use Rattle.wavelet.specs.Filter.{filter, samples}
-use Rattle.wavelet.specs.Transform.{Band, low-size}
-use Rattle.wavelet.specs.Places.{sample-at, Sheet}
-use Rattle.wavelet.specs.Lines.{line, Grid, GridWithin, OntoGrid}
-use Rattle.wavelet.specs.Grids.{Gridded, Pass, SamplesWithin, rows-of, columns-of}
+use Rattle.wavelet.specs.Filter.{Steps, filter}
+use Rattle.wavelet.specs.Transform.{low-size}
+use Rattle.wavelet.specs.Places.{sample-at}
+use Rattle.wavelet.specs.Lines.{OntoGrid, Grid, GridWithin, level-cell}
+use Rattle.wavelet.specs.Grids.{Gridded, Pass, SamplesWithin, level-band}
 use Rattle.wavelet.proofs.Halves.{below-size, size-above}
-use Rattle.wavelet.proofs.Related.{filter-cong}
-use Rattle.wavelet.proofs.Within.{filter-size, joined-thrice}
+use Rattle.wavelet.proofs.Tame.{Tame, thrice}
 
 -- a cell has one row and one column
 pub one-place : {w : ℕ} (r c r′ c′ : ℕ) → c < w → c′ < w → r * w + c ≡ r′ * w + c′ → (r ≡ r′) × (c ≡ c′)
 one-place {w} r c r′ c′ h h′ e =
     (sym (digits-div r h) ∙ ap (λ (n : ℕ). n / w) e ∙ digits-div r′ h′, sym (digits-mod r h) ∙ ap (λ (n : ℕ). n % w) e ∙ digits-mod r′ h′)
 
--- a line's samples grow by three at most
-thrice : (Z B : ℕ) → 2 ≤ Z → (X : ℕ → ℤ) → ((i : ℕ) → i < Z → natAbs (X i) ≤ B) → (i : ℕ) → i < Z → natAbs (filter samples Z X i) ≤ 3 * B
-thrice Z B two X most i h = le-trans (filter-size Z two X (λ k l _. most k l) (λ k l _. most k l) i h) (joined-thrice B)
+pub samples-le : {w h B C : ℕ} {l : List ℤ} → SamplesWithin w h B l → B ≤ C → SamplesWithin w h C l
+samples-le s k = record { most = λ c r hc hr. le-trans (s .most c r hc hr) k }
 
--- a pass seen along the other direction
-crossed : {a m b n : ℕ} {g : ℕ → ℕ → ℤ} {l l′ : List ℤ} → OntoGrid a m b n g l l′ → OntoGrid b n a m (λ k q. g q k) l l′
-crossed {a} {m} {b} {n} {l′ = l′} o = record {
-  same = o .same;
-  on = λ k q hk hq. ap (cell l′) (add-comm (k * b) (q * a)) ∙ o .on q k hq hk;
-  off = λ j never. o .off j (λ q k hq hk e. never k q hk hq (e ∙ add-comm (q * a) (k * b)));
-}
+-- row k of the grid begins at a multiple of the sheet's width
+pub row-start : (w d k : ℕ) → k * (w * 2 ^ d) ≡ k * 2 ^ d * w
+row-start w d k = ap (λ (n : ℕ). k * n) (mul-comm w (2 ^ d)) ∙ sym (mul-assoc k (2 ^ d) w)
 
-regridded : {w h s t : ℕ} {g g′ : Band ℤ} {l l′ : List ℤ} → Gridded w h s t g l l′ → ((x y : ℕ) → x * s < w → y * t < h → g x y ≡ g′ x y) → Gridded w h s t g′ l l′
-regridded o e = record { same = o .same; on = λ x y hx hy. o .on x y hx hy ∙ e x y hx hy; off = o .off }
+module _ {w h d len : ℕ} (p : Pass w h d len) where
+  at-cell : (k q : ℕ) → k * (w * 2 ^ d) + q * 2 ^ d ≡ k * 2 ^ d * w + q * 2 ^ d
+  at-cell k q = ap (λ (n : ℕ). n + q * 2 ^ d) (row-start w d k)
 
-module _ {w h len : ℕ} (sheet : Sheet w h len) (dx dy : ℕ) where
-  -- the cell at row q and place k of the grid, as the pass along the rows counts it, and as that along the columns does
-  by-rows : (q k : ℕ) → q * (w * 2 ^ dy) + k * 2 ^ dx ≡ q * 2 ^ dy * w + k * 2 ^ dx
-  by-rows q k = ap (λ (n : ℕ). n + k * 2 ^ dx) (ap (λ (n : ℕ). q * n) (mul-comm w (2 ^ dy)) ∙ sym (mul-assoc q (2 ^ dy) w))
-
-  by-columns : (k q : ℕ) → k * 2 ^ dx + q * (w * 2 ^ dy) ≡ q * 2 ^ dy * w + k * 2 ^ dx
-  by-columns k q = add-comm (k * 2 ^ dx) (q * (w * 2 ^ dy)) ∙ by-rows q k
-
-  cell-inside : (q k : ℕ) → q < low-size h dy → k < low-size w dx → q * 2 ^ dy * w + k * 2 ^ dx < len
-  cell-inside q k hq hk = rw (← sheet .all) (digits-lt (below-size (pow-pos dy) h q hq) (below-size (pow-pos dx) w k hk))
-
-  cell-apart : (q k q′ k′ : ℕ) → k < low-size w dx → k′ < low-size w dx → q * 2 ^ dy * w + k * 2 ^ dx ≡ q′ * 2 ^ dy * w + k′ * 2 ^ dx → (q ≡ q′) × (k ≡ k′)
-  cell-apart q k q′ k′ hk hk′ e =
-      let p : (q * 2 ^ dy ≡ q′ * 2 ^ dy) × (k * 2 ^ dx ≡ k′ * 2 ^ dx) = one-place (q * 2 ^ dy) (k * 2 ^ dx) (q′ * 2 ^ dy) (k′ * 2 ^ dx) (below-size (pow-pos dx) w k hk) (below-size (pow-pos dx) w k′ hk′) e in
-      (eq-of-mul-eq-mul-right (2 ^ dy) (pow-pos dy) q q′ (p .0), eq-of-mul-eq-mul-right (2 ^ dx) (pow-pos dx) k k′ (p .1))
-
-  pub row-grid : 2 ≤ low-size w dx → Grid (w * 2 ^ dy) (low-size h dy) (2 ^ dx) (low-size w dx) len
-  row-grid two = record {
-    two = two;
-    step-up = mul-pos (sheet .wide) (pow-pos dy);
-    stride-up = pow-pos dx;
-    inside = λ q k hq hk. rw (by-rows q k) (cell-inside q k hq hk);
-    apart = λ q r i k hq hr hi hk e. cell-apart q i r k hi hk (sym (by-rows q i) ∙ e ∙ by-rows r k) .0;
+  pub level-grid : Grid (2 ^ d) (low-size w d) (w * 2 ^ d) (low-size h d) len
+  level-grid = record {
+    two-across = p .two-across;
+    two-down = p .two-down;
+    s-up = pow-pos d;
+    t-up = mul-pos (p .sheet .wide) (pow-pos d);
+    inside = λ k q hk hq. rw (at-cell k q, ← p .sheet .all) (digits-lt (below-size (pow-pos d) h k hk) (below-size (pow-pos d) w q hq));
+    apart = λ k q k′ q′ hk hq hk′ hq′ e.
+        let o = one-place (k * 2 ^ d) (q * 2 ^ d) (k′ * 2 ^ d) (q′ * 2 ^ d) (below-size (pow-pos d) w q hq) (below-size (pow-pos d) w q′ hq′) (sym (at-cell k q) ∙ e ∙ at-cell k′ q′) in
+        (eq-of-mul-eq-mul-right (2 ^ d) (pow-pos d) k k′ (o .0), eq-of-mul-eq-mul-right (2 ^ d) (pow-pos d) q q′ (o .1));
   }
 
-  pub column-grid : 2 ≤ low-size h dy → Grid (2 ^ dx) (low-size w dx) (w * 2 ^ dy) (low-size h dy) len
-  column-grid two = record {
-    two = two;
-    step-up = pow-pos dx;
-    stride-up = mul-pos (sheet .wide) (pow-pos dy);
-    inside = λ k q hk hq. rw (by-columns k q) (cell-inside q k hq hk);
-    apart = λ k r i q hk hr hi hq e. cell-apart i k q r hk hr (sym (by-columns k i) ∙ e ∙ by-columns r q) .1;
-  }
+  pub level-cells : {B : ℕ} {l : List ℤ} → SamplesWithin w h B l → GridWithin (2 ^ d) (low-size w d) (w * 2 ^ d) (low-size h d) B l
+  level-cells m = record { most = λ k q hk hq. rw (at-cell k q) (m .most (q * 2 ^ d) (k * 2 ^ d) (below-size (pow-pos d) w q hq) (below-size (pow-pos d) h k hk)) }
 
-  module _ {l : List ℤ} where
-    pub row-cells : {B : ℕ} → SamplesWithin w h B l → GridWithin (w * 2 ^ dy) (low-size h dy) (2 ^ dx) (low-size w dx) B l
-    row-cells m = record { most = λ q k hq hk. rw (by-rows q k) (m .most (k * 2 ^ dx) (q * 2 ^ dy) (below-size (pow-pos dx) w k hk) (below-size (pow-pos dy) h q hq)) }
+  -- what a level leaves, as samples
+  module _ (S : Steps ℤ) where
+    same-band : (l : List ℤ) (x y : ℕ) → level-cell S (2 ^ d) (low-size w d) (w * 2 ^ d) (low-size h d) l (y, x) ≡ level-band S w h d l x y
+    same-band l x y = λ i. filter S (low-size h d) (λ k. filter S (low-size w d) (λ q. cell l (at-cell k q i)) x) y
 
-    pub column-cells : {B : ℕ} → SamplesWithin w h B l → GridWithin (2 ^ dx) (low-size w dx) (w * 2 ^ dy) (low-size h dy) B l
-    column-cells m = record { most = λ k q hk hq. rw (by-columns k q) (m .most (k * 2 ^ dx) (q * 2 ^ dy) (below-size (pow-pos dx) w k hk) (below-size (pow-pos dy) h q hq)) }
+    pub level-made : {l l′ : List ℤ} → OntoGrid (2 ^ d) (low-size w d) (w * 2 ^ d) (low-size h d) (level-cell S (2 ^ d) (low-size w d) (w * 2 ^ d) (low-size h d) l) l l′
+        → Gridded w h (2 ^ d) (2 ^ d) (level-band S w h d l) l l′
+    level-made {l} {l′} o = record {
+      same = o .same;
+      on = λ x y hx hy. ap (cell l′) (sym (at-cell y x)) ∙ o .on (y, x) (size-above (pow-pos d) h y hy, size-above (pow-pos d) w x hx) ∙ same-band l x y;
+      off = λ c r hc hr never. o .off (r * w + c) (λ i a e.
+          let u = one-place r c (i .0 * 2 ^ d) (i .1 * 2 ^ d) hc (below-size (pow-pos d) w (i .1) (a .1)) (e ∙ at-cell (i .0) (i .1)) in
+          never (i .1) (i .0) (u .1) (u .0));
+    }
 
-  -- ---- what the pass leaves, as samples
+  -- sizes grow by three at most across, and by three at most down
+  module _ {S : Steps ℤ} (T : Tame S) {B : ℕ} {l l′ : List ℤ} (within : SamplesWithin w h B l) (made : Gridded w h (2 ^ d) (2 ^ d) (level-band S w h d l) l l′) where
+    row-most : (x j : ℕ) → x < low-size w d → j < low-size h d → natAbs (filter S (low-size w d) (λ i. sample-at w l (i * 2 ^ d) (j * 2 ^ d)) x) ≤ 3 * B
+    row-most x j hx hj =
+        thrice T (low-size w d) (p .two-across) (λ i. sample-at w l (i * 2 ^ d) (j * 2 ^ d))
+        (λ i hi. within .most (i * 2 ^ d) (j * 2 ^ d) (below-size (pow-pos d) w i hi) (below-size (pow-pos d) h j hj)) x hx
 
-  made : {g : ℕ → ℕ → ℤ} {l l′ : List ℤ} → OntoGrid (w * 2 ^ dy) (low-size h dy) (2 ^ dx) (low-size w dx) g l l′ → Gridded w h (2 ^ dx) (2 ^ dy) (λ x y. g y x) l l′
-  made {l′ = l′} o = record {
-    same = o .same;
-    on = λ x y hx hy. ap (cell l′) (sym (by-rows y x)) ∙ o .on y x (size-above (pow-pos dy) h y hy) (size-above (pow-pos dx) w x hx);
-    off = λ c r hc hr never. o .off (r * w + c) (λ q k hq hk e.
-        let p : (r ≡ q * 2 ^ dy) × (c ≡ k * 2 ^ dx) = one-place r c (q * 2 ^ dy) (k * 2 ^ dx) hc (below-size (pow-pos dx) w k hk) (e ∙ by-rows q k) in
-        never k q (p .1) (p .0));
-  }
+    band-most : (x y : ℕ) → x * 2 ^ d < w → y * 2 ^ d < h → natAbs (level-band S w h d l x y) ≤ 9 * B
+    band-most x y hx hy =
+        omega (
+          arith,
+          thrice T (low-size h d) (p .two-down) (λ j. filter S (low-size w d) (λ i. sample-at w l (i * 2 ^ d) (j * 2 ^ d)) x)
+              (λ j hj. row-most x j (size-above (pow-pos d) w x hx) hj) y (size-above (pow-pos d) h y hy),
+        )
 
-  module _ {l l′ : List ℤ} where
-    pub rows-made : 2 ≤ low-size w dx → OntoGrid (w * 2 ^ dy) (low-size h dy) (2 ^ dx) (low-size w dx) (λ q. filter samples (low-size w dx) (line (q * (w * 2 ^ dy)) (2 ^ dx) l)) l l′ → Gridded w h (2 ^ dx) (2 ^ dy) (rows-of w (2 ^ dx) (2 ^ dy) l) l l′
-    rows-made two o = regridded (made o) (λ x y hx hy.
-        filter-cong samples (low-size w dx) two (line (y * (w * 2 ^ dy)) (2 ^ dx) l) (λ i. sample-at w l (i * 2 ^ dx) (y * 2 ^ dy)) (λ i hi. ap (cell l) (by-rows y i)) x (size-above (pow-pos dx) w x hx))
-
-    pub columns-made : 2 ≤ low-size h dy → OntoGrid (2 ^ dx) (low-size w dx) (w * 2 ^ dy) (low-size h dy) (λ q. filter samples (low-size h dy) (line (q * 2 ^ dx) (w * 2 ^ dy) l)) l l′ → Gridded w h (2 ^ dx) (2 ^ dy) (columns-of w h (2 ^ dx) (2 ^ dy) l) l l′
-    columns-made two o = regridded (made (crossed o)) (λ x y hx hy.
-        filter-cong samples (low-size h dy) two (line (x * 2 ^ dx) (w * 2 ^ dy) l) (λ i. sample-at w l (x * 2 ^ dx) (i * 2 ^ dy)) (λ i hi. ap (cell l) (by-columns x i)) y (size-above (pow-pos dy) h y hy))
-
-  -- ---- sizes grow by three at most
-
-  module _ {B : ℕ} {g : Band ℤ} {l l′ : List ℤ} (within : SamplesWithin w h B l) (pass : Gridded w h (2 ^ dx) (2 ^ dy) g l l′) (sizes : (x y : ℕ) → x * 2 ^ dx < w → y * 2 ^ dy < h → natAbs (g x y) ≤ 3 * B) where
-    pub pass-size : SamplesWithin w h (3 * B) l′
-    pass-size = record { most = λ c r hc hr. pick c r hc hr (ℕ-discrete (c % 2 ^ dx) 0) (ℕ-discrete (r % 2 ^ dy) 0) }
+    pub level-size : SamplesWithin w h (9 * B) l′
+    level-size = record { most = λ c r hc hr. pick c r hc hr (ℕ-discrete (c % 2 ^ d) 0) (ℕ-discrete (r % 2 ^ d) 0) }
       where
-        stays : (c r : ℕ) → c < w → r < h → ((x y : ℕ) → c ≡ x * 2 ^ dx → r ≡ y * 2 ^ dy → ⊥) → natAbs (sample-at w l′ c r) ≤ 3 * B
-        stays c r hc hr never = omega (arith, ap natAbs (pass .off c r hc hr never), within .most c r hc hr)
+        stays : (c r : ℕ) → c < w → r < h → ((x y : ℕ) → c ≡ x * 2 ^ d → r ≡ y * 2 ^ d → ⊥) → natAbs (sample-at w l′ c r) ≤ 9 * B
+        stays c r hc hr never = omega (arith, ap natAbs (made .off c r hc hr never), within .most c r hc hr)
 
-        moves : (c r x y : ℕ) → c < w → r < h → c ≡ x * 2 ^ dx → r ≡ y * 2 ^ dy → natAbs (sample-at w l′ c r) ≤ 3 * B
-        moves c r x y hc hr ec er = rw (ec, er) (rw (pass .on x y (omega arith) (omega arith)) (sizes x y (omega arith) (omega arith)))
+        moves : (c r x y : ℕ) → c < w → r < h → c ≡ x * 2 ^ d → r ≡ y * 2 ^ d → natAbs (sample-at w l′ c r) ≤ 9 * B
+        moves c r x y hc hr ec er = rw (ec, er) (rw (made .on x y (omega arith) (omega arith)) (band-most x y (omega arith) (omega arith)))
 
         multiple : (n m : ℕ) → n % m ≡ 0 → n ≡ n / m * m
         multiple n m e = omega (arith, div-add-mod' n m)
 
-        pick : (c r : ℕ) → c < w → r < h → Dec (c % 2 ^ dx ≡ 0) → Dec (r % 2 ^ dy ≡ 0) → natAbs (sample-at w l′ c r) ≤ 3 * B
-        pick c r hc hr (yes ec) (yes er) = moves c r (c / 2 ^ dx) (r / 2 ^ dy) hc hr (multiple c (2 ^ dx) ec) (multiple r (2 ^ dy) er)
-        pick c r hc hr (no n) er = stays c r hc hr (λ x y ex ey. n (rw ex (mul-mod-left x (2 ^ dx))))
-        pick c r hc hr (yes ec) (no n) = stays c r hc hr (λ x y ex ey. n (rw ey (mul-mod-left y (2 ^ dy))))
-
-  module _ {B : ℕ} {l l′ : List ℤ} (within : SamplesWithin w h B l) where
-    pub rows-size : 2 ≤ low-size w dx → Gridded w h (2 ^ dx) (2 ^ dy) (rows-of w (2 ^ dx) (2 ^ dy) l) l l′ → SamplesWithin w h (3 * B) l′
-    rows-size two pass = pass-size within pass (λ x y hx hy.
-        thrice (low-size w dx) B two (λ i. sample-at w l (i * 2 ^ dx) (y * 2 ^ dy)) (λ i hi. within .most (i * 2 ^ dx) (y * 2 ^ dy) (below-size (pow-pos dx) w i hi) hy) x (size-above (pow-pos dx) w x hx))
-
-    pub columns-size : 2 ≤ low-size h dy → Gridded w h (2 ^ dx) (2 ^ dy) (columns-of w h (2 ^ dx) (2 ^ dy) l) l l′ → SamplesWithin w h (3 * B) l′
-    columns-size two pass = pass-size within pass (λ x y hx hy.
-        thrice (low-size h dy) B two (λ i. sample-at w l (x * 2 ^ dx) (i * 2 ^ dy)) (λ i hi. within .most (x * 2 ^ dx) (i * 2 ^ dy) hx (below-size (pow-pos dy) h i hi)) y (size-above (pow-pos dy) h y hy))
+        pick : (c r : ℕ) → c < w → r < h → Dec (c % 2 ^ d ≡ 0) → Dec (r % 2 ^ d ≡ 0) → natAbs (sample-at w l′ c r) ≤ 9 * B
+        pick c r hc hr (yes ec) (yes er) = moves c r (c / 2 ^ d) (r / 2 ^ d) hc hr (multiple c (2 ^ d) ec) (multiple r (2 ^ d) er)
+        pick c r hc hr (no n) er = stays c r hc hr (λ x y ex ey. n (rw ex (mul-mod-left x (2 ^ d))))
+        pick c r hc hr (yes ec) (no n) = stays c r hc hr (λ x y ex ey. n (rw ey (mul-mod-left y (2 ^ d))))
 
 -- ---- the shifts of the code do not wrap
 
-module _ {w h dx dy n len : ℕ} (p : Pass w h dx dy n len) where
-  pub row-shift : (w * 2 ^ dy) % 2 ^ 64 ≡ w * 2 ^ dy
-  row-shift = shl-exact {a = w} 15 dy 64 (omega (arith, p .sheet .narrow)) (omega (arith, p .down-depth))
+pub row-shift : {w : ℕ} (d : ℕ) → w ≤ 16384 → d ≤ 5 → (w * 2 ^ d) % 2 ^ 64 ≡ w * 2 ^ d
+row-shift {w} d narrow depth = shl-exact {a = w} 15 d 64 (omega arith) (omega arith)
 
-  pub column-shift : (1 * 2 ^ dx) % 2 ^ 64 ≡ 2 ^ dx
-  column-shift = one-shl dx (omega (arith, p .across-depth))
-
--- ---- a pass over what another left
-
-pub pass-again : {w h dx dy n len n′ len′ : ℕ} → Pass w h dx dy n len → len′ ≡ len → 2 ≤ n′ → Pass w h dx dy n′ len′
-pass-again p e two = record { sheet = rw e (p .sheet); across-depth = p .across-depth; down-depth = p .down-depth; two = two }
-
-pub samples-le : {w h B C : ℕ} {l : List ℤ} → SamplesWithin w h B l → B ≤ C → SamplesWithin w h C l
-samples-le s k = record { most = λ c r hc hr. le-trans (s .most c r hc hr) k }
+pub column-shift : (d : ℕ) → d ≤ 5 → (1 * 2 ^ d) % 2 ^ 64 ≡ 2 ^ d
+column-shift d depth = one-shl d (omega arith)

@@ -1,47 +1,55 @@
--- The two steps of samples as a machine has them: how large their values are, by the distance rule from 0, and what fits an i64 on the way.
--- Assumes nothing.
-use Prim.Native.Nat.{ℕ, _+_, _*_, _≤_}
+-- The steps as a machine has them: what fits an i64 on the way. Assumes nothing.
+use Prim.Native.Nat.{ℕ, _^_, _<_}
 use native.Mathlib.Omega.{arith}
 use lib.IntN.{ℤ, pos, natAbs, _+ℤ_}
 use lib.Signed.{shrZ}
 use mir.Syntax.{w64}
 use mir.Val.{SFits}
-use Rattle.whole.specs.Numbers.{ceilDiv}
+use Rattle.whole.specs.Numbers.{Within}
 use Rattle.whole.proofs.Linear.{addZ, absZ}
 use Rattle.whole.proofs.Machine.{fitsZ, shr-fits, small-fits}
 use Rattle.whole.proofs.Within.{within-of-size, size-of-within}
-use Rattle.wavelet.specs.Filter.{even-step, odd-step, samples}
-use Rattle.wavelet.specs.Sweeps.{Small}
-use Rattle.wavelet.proofs.Within.{even-within, odd-within}
+use Rattle.wavelet.specs.Filter.{even-step, odd-step}
+use Rattle.wavelet.specs.Kinds.{even-rise, odd-rise}
+use Rattle.wavelet.specs.Runs.{Summable, Small}
+use Rattle.wavelet.proofs.Within.{even-within, odd-within, even-rise-within, odd-rise-within}
 
-module _ {a b c : ℕ} (x l r : ℤ) (p : natAbs x ≤ a) (q : natAbs l ≤ b) (s : natAbs r ≤ c) where
-  even-most : natAbs (even-step x l r) ≤ a + ceilDiv (b + c) 4
-  even-most = size-of-within (even-within (within-of-size x p) (within-of-size l q) (within-of-size r s))
-
-  odd-most : natAbs (odd-step x l r) ≤ a + ceilDiv (b + c) 2
-  odd-most = size-of-within (odd-within (within-of-size x p) (within-of-size l q) (within-of-size r s))
-
--- an even sample is at most twice as large as what it is made of
-pub even-size : (x l r : ℤ) {B : ℕ} → 2 ≤ B → natAbs x ≤ B → natAbs l ≤ B → natAbs r ≤ B → natAbs (samples .even x l r) ≤ 2 * B
-unfolding samples
-even-size x l r two hx hl hr = omega (arith, even-most x l r hx hl hr)
-
--- what an i64 holds on the way
-module _ {x l r : ℤ} (h : Small x l r) where
+-- the neighbours' sum, and its quarter and half
+module _ {l r more : ℤ} (h : Summable l r more) where
   pub sum-fits : SFits w64 (l +ℤ r)
-  sum-fits = fitsZ (l +ℤ r) (omega (arith, absZ l, absZ r, addZ l r))
+  sum-fits = fitsZ (l +ℤ r) (omega (arith, absZ l, absZ r, addZ l r, h .small-l, h .small-r))
 
-  pub sum-two-fits : SFits w64 (l +ℤ r +ℤ pos 2)
-  sum-two-fits = fitsZ (l +ℤ r +ℤ pos 2) (omega (arith, absZ l, absZ r, addZ l r, addZ (l +ℤ r) (pos 2)))
+  pub sum-more-fits : SFits w64 (l +ℤ r +ℤ more)
+  sum-more-fits = fitsZ (l +ℤ r +ℤ more) (omega (arith, absZ l, absZ r, absZ more, addZ l r, addZ (l +ℤ r) more, h .small-l, h .small-r, h .small-more))
 
-  pub quarter-fits : SFits w64 (shrZ (l +ℤ r +ℤ pos 2) 4)
-  quarter-fits = shr-fits 4 sum-two-fits
+  pub shift-fits : (m : ℕ) → SFits w64 (shrZ (l +ℤ r +ℤ more) m)
+  shift-fits m = shr-fits m sum-more-fits
 
-  pub half-fits : SFits w64 (shrZ (l +ℤ r) 2)
-  half-fits = shr-fits 2 sum-fits
+-- each result, by the distance rule from 0
+module _ {x l r : ℤ} (h : Small x l r) where
+  pub summable : (c : ℕ) → c < 4 → Summable l r (pos c)
+  summable c b = record { small-l = h .small-l; small-r = h .small-r; small-more = b }
+
+  near-l : Within (natAbs l) l (pos 0)
+  near-l = within-of-size l (omega arith)
+
+  near-r : Within (natAbs r) r (pos 0)
+  near-r = within-of-size r (omega arith)
+
+  near-x : Within (natAbs x) x (pos 0)
+  near-x = within-of-size x (omega arith)
+
+  result-fits : (z : ℤ) {e : ℕ} → Within e z (pos 0) → e < 2 ^ 63 → SFits w64 z
+  result-fits z p b = small-fits z (omega (arith, size-of-within p))
 
   pub even-fits : SFits w64 (even-step x l r)
-  even-fits = small-fits (even-step x l r) (omega (arith, even-most x l r (h .small-x) (h .small-l) (h .small-r)))
+  even-fits = result-fits (even-step x l r) (even-within near-l near-r near-x) (omega (arith, h .small-x, h .small-l, h .small-r))
 
   pub odd-fits : SFits w64 (odd-step x l r)
-  odd-fits = small-fits (odd-step x l r) (omega (arith, odd-most x l r (h .small-x) (h .small-l) (h .small-r)))
+  odd-fits = result-fits (odd-step x l r) (odd-within near-l near-r near-x) (omega (arith, h .small-x, h .small-l, h .small-r))
+
+  pub even-rise-fits : SFits w64 (even-rise x l r)
+  even-rise-fits = result-fits (even-rise x l r) (even-rise-within near-l near-r near-x) (omega (arith, h .small-x, h .small-l, h .small-r))
+
+  pub odd-rise-fits : SFits w64 (odd-rise x l r)
+  odd-rise-fits = result-fits (odd-rise x l r) (odd-rise-within near-l near-r near-x) (omega (arith, h .small-x, h .small-l, h .small-r))

@@ -13,7 +13,7 @@ use Rattle.wavelet.proofs.Halves.{low-all}
 -- ---- a loop that counts down
 
 module _ {X Y W : Type 0} (P : ℕ → X → Y → W → Type 0) (turn : ℕ → X → X) (turn′ : ℕ → Y → Y) (turn″ : ℕ → W → W) (to : ℕ) where
-  down-keeps : (n : ℕ) → ((d : ℕ) (s : X) (s′ : Y) (s″ : W) → to < d → d ≤ to + n → P d s s′ s″ → P (d - 1) (turn d s) (turn′ d s′) (turn″ d s″))
+  pub down-keeps : (n : ℕ) → ((d : ℕ) (s : X) (s′ : Y) (s″ : W) → to < d → d ≤ to + n → P d s s′ s″ → P (d - 1) (turn d s) (turn′ d s′) (turn″ d s″))
       → {s : X} {s′ : Y} {s″ : W} → P (to + n) s s′ s″ → P to (down turn to n s) (down turn′ to n s′) (down turn″ to n s″)
   unfolding down
   down-keeps zero each p = rw add-zero at p

@@ -1,20 +1,14 @@
--- A component's samples on a grid of columns 0, s, 2 s, .. and rows 0, t, 2 t, .., as a pass over the grid leaves them.
+-- A component's samples on a grid of columns 0, s, 2 s, .. and rows 0, t, 2 t, .., as the levels of Table E.1 leave them in their cells.
 use mathlib.Core.Path.{_≡_}
 use mathlib.Core.List.{List}
-use Prim.Native.Nat.{ℕ, _*_, _-_, _^_, _≤_, _<_}
+use Prim.Native.Nat.{ℕ, _+_, _*_, _-_, _^_, _≤_, _<_}
 use lib.IntN.{ℤ, natAbs}
 use lib.ListN.{length}
-use Rattle.whole.specs.Numbers.{ceilDiv}
-use Rattle.wavelet.specs.Filter.{filter, samples}
-use Rattle.wavelet.specs.Transform.{Band, low-size, hor-transform, ver-transform, down, across, both}
-use Rattle.wavelet.specs.Places.{sample-at, bands, Sheet}
-
--- the grid's lines filtered, along the rows and along the columns
-abbrev pub rows-of : ℕ → ℕ → ℕ → List ℤ → Band ℤ
-rows-of w s t l x y = filter samples (ceilDiv w s) (λ i. sample-at w l (i * s) (y * t)) x
-
-abbrev pub columns-of : ℕ → ℕ → ℕ → ℕ → List ℤ → Band ℤ
-columns-of w h s t l x y = filter samples (ceilDiv h t) (λ i. sample-at w l (x * s) (i * t)) y
+use Rattle.whole.specs.Cells.{cell}
+use Rattle.wavelet.specs.Filter.{Steps, filter}
+use Rattle.wavelet.specs.Transform.{Band, LL, low-size, woven, hor-transform, ver-transform, down, across, both}
+use Rattle.wavelet.specs.Places.{sample-at, place, bands, Sheet}
+use Rattle.wavelet.specs.Lines.{line, OntoLine}
 
 -- l′ is l with the band g on the grid, and with no other sample changed
 pub record Gridded (w h s t : ℕ) (g : Band ℤ) (l l′ : List ℤ) : Type 0 where
@@ -22,43 +16,68 @@ pub record Gridded (w h s t : ℕ) (g : Band ℤ) (l l′ : List ℤ) : Type 0 w
   pub on : (x y : ℕ) → x * s < w → y * t < h → sample-at w l′ (x * s) (y * t) ≡ g x y
   pub off : (c r : ℕ) → c < w → r < h → ((x y : ℕ) → c ≡ x * s → r ≡ y * t → ⊥) → sample-at w l′ c r ≡ sample-at w l c r
 
--- the grid of depths dx and dy of such a sheet, whose filtered lines have n samples each
-pub record Pass (w h dx dy n len : ℕ) : Type 0 where
-  pub sheet : Sheet w h len
-  pub across-depth : dx ≤ 5
-  pub down-depth : dy ≤ 5
-  pub two : 2 ≤ n
-
 -- every sample is at most B in size
 pub record SamplesWithin (w h B : ℕ) (l : List ℤ) : Type 0 where
   pub most : (c r : ℕ) → c < w → r < h → natAbs (sample-at w l c r) ≤ B
 
--- ---- Table E.1's two loops over the samples that stand in l
+module _ (S : Steps ℤ) where
+  -- ---- Table E.1's two loops over the samples that stand in l
 
-abbrev pub hor-of : ℕ → ℕ → Band ℤ → Band ℤ → Band ℤ
-hor-of w d = hor-transform samples (low-size w d)
+  abbrev pub hor-of : ℕ → ℕ → Band ℤ → Band ℤ → Band ℤ
+  hor-of w d = hor-transform S (low-size w d)
 
-abbrev pub ver-of : ℕ → ℕ → Band ℤ → Band ℤ → Band ℤ
-ver-of h d = ver-transform samples (low-size h d)
+  abbrev pub ver-of : ℕ → ℕ → Band ℤ → Band ℤ → Band ℤ
+  ver-of h d = ver-transform S (low-size h d)
 
--- one turn of the first loop, and of the second
-abbrev pub across-turn : ℕ → ℕ → ℕ → List ℤ → ℕ → Band ℤ → Band ℤ
-across-turn w h ny l = across (hor-of w) (ver-of h) (bands (sample-at w l)) ny
+  -- one turn of the first loop, and of the second
+  abbrev pub across-turn : ℕ → ℕ → ℕ → List ℤ → ℕ → Band ℤ → Band ℤ
+  across-turn w h ny l = across (hor-of w) (ver-of h) (bands (sample-at w l)) ny
 
-abbrev pub both-turn : ℕ → ℕ → List ℤ → ℕ → Band ℤ → Band ℤ
-both-turn w h l = both (hor-of w) (ver-of h) (bands (sample-at w l))
+  abbrev pub both-turn : ℕ → ℕ → List ℤ → ℕ → Band ℤ → Band ℤ
+  both-turn w h l = both (hor-of w) (ver-of h) (bands (sample-at w l))
 
--- l′ holds what n turns from depth `to` + n down to `to` make of the band `low`, on the grid of that depth, and l elsewhere; sizes are at most B
-pub record Descended (w h s t : ℕ) (turn : ℕ → Band ℤ → Band ℤ) (to n : ℕ) (low : Band ℤ) (B : ℕ) (l l′ : List ℤ) : Type 0 where
-  pub made : Gridded w h s t (down turn to n low) l l′
-  pub within : SamplesWithin w h B l′
+  -- ---- the first loop, over one row alone: the row X of w samples, from depth nx to ny
 
--- a pass along the rows of the grid of depth d, and one along its columns over what that leaves
-pub record BothPasses (w h d : ℕ) (l l′ : List ℤ) : Type 0 where
-  pub between : List ℤ
-  pub rows : Gridded w h (2 ^ d) (2 ^ d) (rows-of w (2 ^ d) (2 ^ d) l) l between
-  pub columns : Gridded w h (2 ^ d) (2 ^ d) (columns-of w h (2 ^ d) (2 ^ d) between) between l′
+  abbrev pub row-turn : ℕ → (ℕ → ℤ) → ℕ → (ℕ → ℤ) → ℕ → ℤ
+  row-turn w X d low = filter S (low-size w (d - 1)) (woven low (λ i. X (place 1 d i)))
 
--- the second loop's ny turns, from whatever band stands on the grid of depth ny, with l₀ elsewhere
-pub record Finished (w h ny : ℕ) (l l′ : List ℤ) : Type 0 where
-  pub made : {l₀ : List ℤ} {low : Band ℤ} → Gridded w h (2 ^ ny) (2 ^ ny) low l₀ l → Gridded w h (2 ^ 0) (2 ^ 0) (down (both-turn w h l₀) 0 ny low) l₀ l′
+  abbrev pub row-low : ℕ → ℕ → ℕ → (ℕ → ℤ) → ℕ → ℤ
+  row-low w nx ny X = down (row-turn w X) ny (nx - ny) (λ i. X (place 0 nx i))
+
+  -- l′ is l with that in the row's places of depth ny, and with no other cell changed; its cells are at most B in size
+  pub record RowLevels (w base nx ny B : ℕ) (l l′ : List ℤ) : Type 0 where
+    pub made : OntoLine base (2 ^ ny) (low-size w ny) (row-low w nx ny (line base 1 l)) l l′
+    pub within : (c : ℕ) → c < w → natAbs (cell l′ (base + c)) ≤ B
+
+  -- the first loop over all rows that are multiples of 2^ny
+  pub record AcrossLevels (w h nx ny B : ℕ) (l l′ : List ℤ) : Type 0 where
+    pub made : Gridded w h (2 ^ ny) (2 ^ ny) (down (across-turn w h ny l) ny (nx - ny) (bands (sample-at w l) LL nx ny)) l l′
+    pub within : SamplesWithin w h B l′
+
+  -- ---- the second loop
+
+  -- the grid of depth d, each row filtered and then each column
+  abbrev pub level-band : ℕ → ℕ → ℕ → List ℤ → Band ℤ
+  level-band w h d l x y = filter S (low-size h d) (λ j. filter S (low-size w d) (λ i. sample-at w l (i * 2 ^ d) (j * 2 ^ d)) x) y
+
+  -- its ny turns, from whatever band stands on the grid of depth ny, with l₀ elsewhere
+  pub record BothLevels (w h ny : ℕ) (l l′ : List ℤ) : Type 0 where
+    pub made : {l₀ : List ℤ} {low : Band ℤ} → Gridded w h (2 ^ ny) (2 ^ ny) low l₀ l → Gridded w h (2 ^ 0) (2 ^ 0) (down (both-turn w h l₀) 0 ny low) l₀ l′
+
+-- ---- what is asked of the cells
+
+-- a row of w cells from `base` on, that nx levels can be made of, of which the first ny are left alone; each of at most B in size
+pub record Row (w base nx ny B : ℕ) (l : List ℤ) : Type 0 where
+  pub narrow : w ≤ 16384
+  pub levels : nx ≤ 5
+  pub fewer : ny ≤ nx
+  pub two : (d : ℕ) → d < nx → 2 ≤ low-size w d
+  pub inside : base + w ≤ length l
+  pub most : (c : ℕ) → c < w → natAbs (cell l (base + c)) ≤ B
+
+-- the grid of depth d of such a sheet, with lines of two samples or more
+pub record Pass (w h d len : ℕ) : Type 0 where
+  pub sheet : Sheet w h len
+  pub depth : d ≤ 5
+  pub two-across : 2 ≤ low-size w d
+  pub two-down : 2 ≤ low-size h d

@@ -2,8 +2,11 @@
 pub mod Filter
 pub mod Transform
 pub mod Bands
-pub mod Places
 pub mod Distance
+pub mod Marks
+pub mod Places
+pub mod Numbers
+pub mod Kinds
 pub mod Lines
-pub mod Sweeps
+pub mod Runs
 pub mod Grids

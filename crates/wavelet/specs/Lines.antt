@@ -1,35 +1,56 @@
--- Lines of cells in a lent slice, and what filtering them in place leaves.
+-- Cells of a lent slice, and what filtering them in place leaves: a line of them, and a grid of rows.
 use mathlib.Core.Path.{_≡_}
 use mathlib.Core.List.{List}
 use Prim.Native.Nat.{ℕ, _+_, _*_, _≤_, _<_}
 use lib.IntN.{ℤ, natAbs}
 use lib.ListN.{length}
 use Rattle.whole.specs.Cells.{cell}
+use Rattle.wavelet.specs.Filter.{Steps, filter}
 
--- the k-th cell of the line that starts at `base`
+-- l′ is l with g on some cells, of which the i-th stands at `at i`, and with no other cell changed
+pub record Onto {I : Type 0} (at : I → ℕ) (In : I → Type 0) (g : I → ℤ) (l l′ : List ℤ) : Type 0 where
+  pub same : length l′ ≡ length l
+  pub on : (i : I) → In i → cell l′ (at i) ≡ g i
+  pub off : (j : ℕ) → ((i : I) → In i → j ≡ at i → ⊥) → cell l′ j ≡ cell l j
+
+-- ---- a line: n cells from `base` on, `stride` apart
+
+-- its k-th cell
 abbrev pub line : ℕ → ℕ → List ℤ → ℕ → ℤ
 line base stride l k = cell l (base + k * stride)
 
--- l′ is l with g on the line, and with no other cell changed
-pub record OntoLine (base stride n : ℕ) (g : ℕ → ℤ) (l l′ : List ℤ) : Type 0 where
-  pub same : length l′ ≡ length l
-  pub on : (k : ℕ) → k < n → line base stride l′ k ≡ g k
-  pub off : (j : ℕ) → ((k : ℕ) → k < n → j ≡ base + k * stride → ⊥) → cell l′ j ≡ cell l j
+abbrev pub OntoLine : ℕ → ℕ → ℕ → (ℕ → ℤ) → List ℤ → List ℤ → Type 0
+OntoLine base stride n = Onto {I = ℕ} (λ k. base + k * stride) (λ k. k < n)
 
--- m lines of n cells, n at least 2, the q-th at q · step, q · step + stride, ..: all in a slice of that length, and no two cells the same
-pub record Grid (step m stride n len : ℕ) : Type 0 where
+-- at least 2 cells, all in the slice, and each of at most B in size
+pub record Line (base stride n B : ℕ) (cells : List ℤ) : Type 0 where
   pub two : 2 ≤ n
-  pub step-up : 0 < step
   pub stride-up : 0 < stride
-  pub inside : (q k : ℕ) → q < m → k < n → q * step + k * stride < len
-  pub apart : (q r i k : ℕ) → q < m → r < m → i < n → k < n → q * step + i * stride ≡ r * step + k * stride → q ≡ r
+  pub inside : (k : ℕ) → k < n → base + k * stride < length cells
+  pub most : (k : ℕ) → k < n → natAbs (line base stride cells k) ≤ B
 
--- each of these cells is at most B in size
-pub record GridWithin (step m stride n B : ℕ) (l : List ℤ) : Type 0 where
-  pub most : (q k : ℕ) → q < m → k < n → natAbs (line (q * step) stride l k) ≤ B
+-- ---- a grid: n rows, t apart, of m cells each, s apart. Its cell (k, q) is the q-th of row k
 
--- l′ is l with g q on the q-th line, and with no other cell changed
-pub record OntoGrid (step m stride n : ℕ) (g : ℕ → ℕ → ℤ) (l l′ : List ℤ) : Type 0 where
-  pub same : length l′ ≡ length l
-  pub on : (q k : ℕ) → q < m → k < n → line (q * step) stride l′ k ≡ g q k
-  pub off : (j : ℕ) → ((q k : ℕ) → q < m → k < n → j ≡ q * step + k * stride → ⊥) → cell l′ j ≡ cell l j
+abbrev pub OntoGrid : ℕ → ℕ → ℕ → ℕ → (ℕ × ℕ → ℤ) → List ℤ → List ℤ → Type 0
+OntoGrid s m t n = Onto {I = ℕ × ℕ} (λ i. i .0 * t + i .1 * s) (λ i. (i .0 < n) × (i .1 < m))
+
+-- at least 2 rows and 2 columns, all in a slice of that length, and no two cells the same
+pub record Grid (s m t n len : ℕ) : Type 0 where
+  pub two-across : 2 ≤ m
+  pub two-down : 2 ≤ n
+  pub s-up : 0 < s
+  pub t-up : 0 < t
+  pub inside : (k q : ℕ) → k < n → q < m → k * t + q * s < len
+  pub apart : (k q k′ q′ : ℕ) → k < n → q < m → k′ < n → q′ < m → k * t + q * s ≡ k′ * t + q′ * s → (k ≡ k′) × (q ≡ q′)
+
+-- each of its cells is at most B in size
+pub record GridWithin (s m t n B : ℕ) (l : List ℤ) : Type 0 where
+  pub most : (k q : ℕ) → k < n → q < m → natAbs (line (k * t) s l q) ≤ B
+
+-- its cell (k, q) when each row is filtered, and when then each column is
+module _ (S : Steps ℤ) (s m t n : ℕ) (l : List ℤ) where
+  abbrev pub across-cell : ℕ × ℕ → ℤ
+  across-cell i = filter S m (line (i .0 * t) s l) (i .1)
+
+  abbrev pub level-cell : ℕ × ℕ → ℤ
+  level-cell i = filter S n (λ k. across-cell (k, i .1)) (i .0)

@@ -6,7 +6,7 @@ use Prim.Native.Nat.{ℕ, _+_, _*_, _-_, _^_, _≤_, _<_}
 use lib.IntN.{ℤ}
 use lib.ListN.{length}
 use Rattle.whole.specs.Cells.{cell}
-use Rattle.wavelet.specs.Filter.{samples}
+use Rattle.wavelet.specs.Filter.{Steps, samples}
 use Rattle.wavelet.specs.Transform.{Kind, Band, inverse}
 use Rattle.wavelet.specs.Bands.{τx, τy, Decomposed}
 
@@ -19,7 +19,7 @@ abbrev pub place : ℕ → ℕ → ℕ → ℕ
 place τ d i = i * 2 ^ d + τ * 2 ^ (d - 1)
 
 -- the band arrays that stand in the cells
-abbrev pub bands : Band ℤ → Kind → ℕ → ℕ → Band ℤ
+abbrev pub bands : {A : Type 0} → Band A → Kind → ℕ → ℕ → Band A
 bands P k dx dy x y = P (place (τx k) dx x) (place (τy k) dy y)
 
 -- h rows of w samples that fill a slice of that length, of the built range
@@ -37,7 +37,11 @@ pub record Component (w h nx ny len : ℕ) : Type 0 where
   pub fewer : ny ≤ 2
   pub parts : Decomposed w h nx ny
 
--- every cell at exit is Annex E's sample of the bands that stood in the cells at entry
-pub record Transformed (w h nx ny : ℕ) (l l′ : List ℤ) : Type 0 where
+-- every cell at exit is Annex E's value, by the steps S, of the bands that stood in the cells at entry
+pub record TransformedBy (S : Steps ℤ) (w h nx ny : ℕ) (l l′ : List ℤ) : Type 0 where
   pub same : length l′ ≡ length l
-  pub made : (x y : ℕ) → x < w → y < h → sample-at w l′ x y ≡ inverse samples w h nx ny (bands (sample-at w l)) x y
+  pub made : (x y : ℕ) → x < w → y < h → sample-at w l′ x y ≡ inverse S w h nx ny (bands (sample-at w l)) x y
+
+-- the same of samples
+abbrev pub Transformed : ℕ → ℕ → ℕ → ℕ → List ℤ → List ℤ → Type 0
+Transformed = TransformedBy samples

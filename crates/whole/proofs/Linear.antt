@@ -110,7 +110,7 @@ pub ofDist : (x y : ℤ) {d : ℕ} → natAbs (x -ℤ y) ≤ d → (up x + dn y 
 ofDist x y h = omega (arith, subZ x y, absZ (x -ℤ y))
 
 -- a test's flag
-flags-differ : {A : Type 0} → true ≡ false → A
+pub flags-differ : {A : Type 0} → true ≡ false → A
 flags-differ e = let z : _≡_ {A = ℕ} 0 1 = cc in absurd (omega arith)
 
 pub ltZ-true : (x y : ℤ) → ltZ x y ≡ true → up x + dn y < up y + dn x

@@ -1,43 +1,46 @@
--- `across_levels` is the first loop of Table E.1: the invariant is `Descending`, the measure the depth. Assumes nothing.
-use Prim.Native.Nat.{_-_, _^_}
+-- `wavelet::across_levels` is the first loop of Table E.1, row after row. Assumes nothing.
+use Prim.Native.Nat.{_-_}
 use native.Mathlib.Omega.{arith}
 use borrow.Author.Needs.{needs}
-use Rattle.wavelet.specs.Transform.{LL}
-use Rattle.wavelet.specs.Places.{sample-at, bands}
-use Rattle.wavelet.specs.Grids.{across-turn}
-use Rattle.wavelet.proofs.Passes.{samples-le}
-use Rattle.wavelet.proofs.Descent.{Descending, descent-begins, descent-ends, descent-size, standing, across-goes-on, across-room, across-pass}
+use Rattle.wavelet.specs.Kinds.{stepsOf}
+use Rattle.wavelet.proofs.Passes.{row-shift}
+use Rattle.wavelet.proofs.Rows.{AcrossDone, across-begins, row-room, row-taken, across-goes-on, across-ends}
 use Rattle.wavelet.proofs.across_levels.Statement.{statement}
 use Rattle.wavelet.proofs.across_levels.Tie as tie
 
 abbrev Inv-loop : tie.InvT-loop
-Inv-loop cells₀ w h nx ny d₀ cells d =
-    Descending w h (λ _. ny) (across-turn w h ny cells₀) ny (nx - ny) (bands (sample-at w cells₀) LL nx ny) 3 (2 ^ 48) d cells₀ cells
+Inv-loop cells₀ kind w h nx ny m step q₀ cells q = AcrossDone (stepsOf kind) w h nx ny q cells₀ cells
 
 abbrev μ-loop : tie.MeasureT-loop
-μ-loop cells₀ w h nx ny d₀ cells d = d
+μ-loop cells₀ kind w h nx ny m step q₀ cells q = m - q
 
 loop-holds : tie.Need-loop-holds Inv-loop μ-loop
-loop-holds c = descent-begins (omega (arith, c .pre .0 .parts .no-more)) (standing _ _ _ _ _) (c .pre .1) (across-room (c .pre .0))
+loop-holds c = let s = c .before in across-begins (s .pre .0) (s .pre .1) (stepsOf (s .args .kind))
 
-filter-rows-requires : tie.Need-filter-rows-requires Inv-loop μ-loop
-filter-rows-requires c κs =
-    let s = c .before .before .before in
+mul-row-levels : tie.Need-mul-row-levels Inv-loop μ-loop
+mul-row-levels c =
+    let s = c .before .before .before .before in
     let i = c .before .before .loop .inv in
-    (across-pass (s .pre .0) (i .stands .same) (c .before .loop-test .taken) (omega (arith, i .most, s .pre .0 .parts .no-more)), samples-le (descent-size i (omega arith)) (omega arith))
+    let t = rw (c .before .before .before .low-size .ensures) at (c .before .loop-test .taken) in
+    rw (row-shift (s .args .ny) (s .pre .0 .sheet .narrow) (omega (arith, s .pre .0 .fewer))) (omega (arith, s .good .0, i .onto .same, row-room (s .pre .0) (s .pre .1) i t))
+
+row-levels-requires : tie.Need-row-levels-requires Inv-loop μ-loop
+row-levels-requires c κs =
+    let s = c .before .before .before .before in
+    let t = rw (c .before .before .before .low-size .ensures) at (c .before .loop-test .taken) in
+    rw (row-shift (s .args .ny) (s .pre .0 .sheet .narrow) (omega (arith, s .pre .0 .fewer))) (row-taken (s .pre .0) (s .pre .1) (c .before .before .loop .inv) t)
 
 loop-again : tie.Need-loop-again Inv-loop μ-loop
 loop-again c =
-    let s = c .before .before .before .before .before in
-    let i = c .before .before .before .before .loop .inv in
-    let t = c .before .before .before .loop-test .taken in
-    across-goes-on (s .pre .0 .sheet) (omega arith) i t (s .pre .0 .parts .two-across _ (omega (arith, i .most, s .pre .0 .parts .no-more))) (c .before .filter-rows .ensures)
-
-same-length : tie.Need-same-length Inv-loop μ-loop
-same-length c = c .before .loop .inv .stands .same
+    let s = c .before .before .before .before .before .before in
+    let t = rw (c .before .before .before .before .before .low-size .ensures) at (c .before .before .before .loop-test .taken) in
+    across-goes-on (s .pre .0) (s .pre .1) (c .before .before .before .before .loop .inv) t
+    (rw (row-shift (s .args .ny) (s .pre .0 .sheet .narrow) (omega (arith, s .pre .0 .fewer))) at (c .before .row-levels .ensures))
 
 returns : tie.Need-returns Inv-loop μ-loop
-returns c = descent-ends (c .before .loop .inv) (c .loop-test .left)
+returns c =
+    let s = c .before .before .before in
+    across-ends (s .pre .0) (s .pre .1) (c .before .loop .inv) (rw (c .before .before .low-size .ensures) at (c .loop-test .left))
 
 pub across-levels-spec : {M : Type 1} → statement M
 across-levels-spec =
@@ -45,10 +48,13 @@ across-levels-spec =
     (tie.spec
     Inv-loop
     μ-loop
+    (λ c κs. (c .pre .0 .sheet .low, omega (arith, c .pre .0 .fewer)))
+    (λ c. omega (arith, c .before .pre .0 .fewer))
     loop-holds
+    mul-row-levels
+    row-levels-requires
     (λ c. search needs)
-    filter-rows-requires
     (λ c. omega arith)
     loop-again
-    same-length
+    (λ c. c .before .loop .inv .onto .same)
     returns)

@@ -1,18 +1,32 @@
--- `both_level` is a pass along the rows and one along the columns. Assumes nothing.
+-- `wavelet::both_level` leaves the grid of depth d filtered, its rows and then its columns. Assumes nothing.
 use native.Mathlib.Omega.{arith}
 use borrow.Author.Needs.{needs}
-use Rattle.wavelet.proofs.Passes.{samples-le, pass-again, rows-size}
+use Rattle.wavelet.specs.Kinds.{stepsOf}
+use Rattle.wavelet.proofs.Passes.{level-grid, level-cells, level-made, row-shift, column-shift}
 use Rattle.wavelet.proofs.both_level.Statement.{statement}
 use Rattle.wavelet.proofs.both_level.Tie as tie
 
-filter-rows-requires : tie.Need-filter-rows-requires
-filter-rows-requires c κs = let s = c .before in (s .pre .0 .0, samples-le (s .pre .1) (omega arith))
+level-requires : tie.Need-level-requires
+level-requires c κs =
+    let s = c .before .before .before in
+    rw (row-shift (s .args .d) (s .pre .0 .sheet .narrow) (s .pre .0 .depth), column-shift (s .args .d) (s .pre .0 .depth), c .before .before .low-size .ensures, c .before .low-size2 .ensures)
+    (level-grid (s .pre .0), level-cells (s .pre .0) (s .pre .1))
 
-filter-columns-requires : tie.Need-filter-columns-requires
-filter-columns-requires c κs =
-    let s = c .before .before .before .before in
-    let r = c .before .before .filter-rows .ensures in
-    (pass-again (s .pre .0 .0) (r .same) (s .pre .0 .1), samples-le (rows-size (s .pre .0 .0 .sheet) (s .args .d) (s .args .d) (s .pre .1) (s .pre .0 .0 .two) r) (omega arith))
+returns : tie.Need-returns
+returns c =
+    let s = c .before .before .before .before .before in
+    level-made (s .pre .0) (stepsOf (s .args .kind))
+    (rw (row-shift (s .args .d) (s .pre .0 .sheet .narrow) (s .pre .0 .depth), column-shift (s .args .d) (s .pre .0 .depth), c .before .before .before .before .low-size .ensures, c .before .before .before .low-size2 .ensures)
+    at (c .before .level .ensures))
 
 pub both-level-spec : {M : Type 1} → statement M
-both-level-spec = tie.close (tie.spec filter-rows-requires filter-columns-requires (λ c. search needs) (λ c. search needs))
+both-level-spec =
+    tie.close
+    (tie.spec
+    (λ c κs. (c .pre .0 .sheet .narrow, c .pre .0 .depth))
+    (λ c κs. (c .before .pre .0 .sheet .low, c .before .pre .0 .depth))
+    (λ c. omega (arith, c .before .before .before .pre .0 .depth))
+    (λ c. omega (arith, c .before .before .before .pre .0 .depth))
+    level-requires
+    (λ c. search needs)
+    returns)

@@ -1,17 +1,12 @@
--- `inverse` is the two loops of Table E.1. Assumes nothing.
+-- `wavelet::inverse` is the transform of kind 0, samples. Assumes nothing.
 use borrow.Author.Needs.{needs}
-use Rattle.wavelet.proofs.Descent.{table-made}
+use Rattle.wavelet.specs.Kinds.{stepsOf}
 use Rattle.wavelet.proofs.inverse.Statement.{statement}
 use Rattle.wavelet.proofs.inverse.Tie as tie
 
-both-levels-requires : tie.Need-both-levels-requires
-both-levels-requires c κs =
-    let first = c .before .before .across-levels .ensures in
-    (rw (first .made .same) (c .before .before .before .before .pre .0), first .within)
-
 returns : tie.Need-returns
-returns c =
-    table-made (c .before .before .before .before .before .before .pre .0) (c .before .before .before .before .across-levels .ensures) (c .before .both-levels .ensures)
+unfolding stepsOf
+returns c = c .before .transform .ensures
 
 pub inverse-spec : {M : Type 1} → statement M
-inverse-spec = tie.close (tie.spec (λ c κs. search needs) both-levels-requires (λ c. search needs) returns)
+inverse-spec = tie.close (tie.spec (λ c κs. search needs) (λ c. search needs) returns)
