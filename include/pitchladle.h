@@ -6,8 +6,8 @@
  * What the caller must see to, and nothing else does:
  *   - a pointer is valid for as many cells as the count behind it says, `page` for one struct, and aligned for its type; it is not null, even where the
  *     count is 0;
- *   - the buffers of one call do not overlap; during the call no other thread writes to any of them, or reads those that the call writes to: samples, work cells
- *     and record;
+ *   - the buffers of one call do not overlap; during the call no other thread writes to any of them, or reads those that the call writes to: samples, work cells,
+ *     marks and record;
  *   - the program is one for x86-64, linked with libpitchladle.a. */
 #ifndef PITCHLADLE_H
 #define PITCHLADLE_H
@@ -28,7 +28,8 @@ extern "C" {
  *   5  a lent buffer is too short
  *   6  a length does not fit: the stream's, a precinct's, a packet's or a subpacket's
  *   7  a bitplane count is not from 0 to 31
- *   8  a prediction or a raw flag is chosen where it may not be */
+ *   8  a prediction or a raw flag is chosen where it may not be
+ * pitchladle_read_damaged answers 0 to 6. */
 
 /* One component of a page: its size in samples, the bits of a sample (8 to 16), and the distance. No sample of the component is further than its distance
  * from the one that the page's whole-number coefficients gave before they were quantised, if that was done as D.4 or D.5 of the standard say and each coefficient
@@ -55,6 +56,23 @@ struct pitchladle_page {
  *   2 N are 0 afterwards, so that nothing of one page is left for the next, and the others are as they were. */
 void pitchladle_read(const uint8_t *stream, size_t stream_bytes, uint16_t *samples, size_t sample_cells, int64_t *work, size_t work_cells,
                      struct pitchladle_page *page);
+
+/* Reads a page in spite of damage inside its slices, and marks the samples that are lost. With N as pitchladle_needs says, it takes N sample cells, 2 N work cells
+ * and N marks, and looks at their counts in this order; more may be lent, and with fewer of any the answer is 5.
+ *   A slice is lost where its precincts break a rule of 3, 6, 7 or 8: the whole slice, with what stands before the break. All its coefficients count as 0, and
+ *   reading goes on behind it, where the lengths that its precincts declare lead.
+ *   What still refuses the page: all that refuses it before the first slice, a slice header or an end marker that is not as it must be (1 to 4), bytes behind the
+ *   end marker (2), and a precinct's length that is cut (1) or leads past the stream (6), if only in a slice that is lost already.
+ *   Marks stand in the order of the samples: 1 where a sample depends on a lost coefficient, directly or through the filters or the colour transform, 0 elsewhere.
+ *   A sample marked 0 is the same whatever the lost coefficients were. One marked 1 is what the page gives with 0 in their place: it is never filled in from its
+ *   neighbours or sharpened.
+ *   Damage that breaks no rule is not covered: the slice is then read as it stands, and no sample is marked for it.
+ *   The distances speak of the samples marked 0 alone, and come from the slices that are not lost; where all are lost they are 0.
+ *   A page that pitchladle_read reads has the same record and samples here, and its N marks are 0.
+ *   The record is written whole. Where the page is refused no sample cell and no mark is changed, and where it is read none behind the N is. The work cells are left
+ *   as pitchladle_read leaves them. Marks and work cells may hold anything before. */
+void pitchladle_read_damaged(const uint8_t *stream, size_t stream_bytes, uint16_t *samples, size_t sample_cells, int64_t *work, size_t work_cells,
+                             uint8_t *marks, size_t mark_bytes, struct pitchladle_page *page);
 
 /* How many samples the page has: the sum of width times height over its components, at most 2^30. 0 where the stream is refused before its first
  * slice; any other page may still be refused later. */

@@ -1,6 +1,7 @@
 //! Annex B: bands, precincts, packets and slices.
 
 use super::a::Header;
+use std::ops::Range;
 
 /// Coefficients in a code group (N_g) and code groups in a significance group (S_s).
 pub const NG: usize = 4;
@@ -144,9 +145,10 @@ impl Layout {
         self.bands.iter().flatten().count()
     }
 
-    /// How many rows of precincts slice `t` has, or 0 behind the last slice (B.11).
-    pub fn slice_rows(&self, t: usize) -> usize {
-        self.hsl.min(self.rows.saturating_sub(t * self.hsl))
+    /// The rows of precincts of each slice, in order (B.11).
+    pub fn slices(&self) -> impl Iterator<Item = Range<usize>> {
+        let (rows, hsl) = (self.rows, self.hsl);
+        (0..rows).step_by(hsl).map(move |first| first..rows.min(first + hsl))
     }
 
     /// The first coefficient of a band's lines in a column of precincts (B.5's membership rule).

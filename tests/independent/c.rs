@@ -8,37 +8,55 @@ use super::e::{self, Plane};
 use super::{require, Refusal, Row};
 use std::ops::Range;
 
-/// What is kept of a band while the stream is read; nothing for one that does not exist.
+/// What is kept of a band while a slice is read; nothing for one that does not exist.
 struct BandState {
-    largest_t: u32,
     /// The bitplane counts of the latest line in each column of precincts, side by side.
     counts: Vec<u8>,
     /// The truncation position of the latest line in each column of precincts.
     line_t: Vec<u32>,
 }
 
-/// Reads all slices and the end marker. Gives the components' coefficients, multiplied by 2^Fq (Table E.2), and each
-/// existing band's largest truncation position over all precincts that hold one of its coefficients.
-pub fn codestream(s: &[u8], header: &Header, layout: &Layout) -> Result<(Vec<Plane>, Vec<u32>), Refusal> {
+/// What slices hold.
+pub struct Decoded {
+    /// The components' coefficients, multiplied by 2^Fq (Table E.2).
+    pub planes: Vec<Plane<i64>>,
+    /// By band index: the largest truncation position over all precincts that hold a coefficient of the band.
+    pub largest_t: Vec<u32>,
+}
+
+/// Reads all slices and the end marker.
+pub fn codestream(s: &[u8], header: &Header, layout: &Layout) -> Result<Decoded, Refusal> {
     let mut reader = Reader::new(s, header, layout);
+    each_slice(s, header, layout, |rows, at| reader.slice(rows, at))?;
+    Ok(reader.decoded)
+}
+
+/// Goes through all slices and the end marker. `slice` takes a slice's rows of precincts and the offset behind its header,
+/// and gives the offset behind the slice.
+pub fn each_slice(
+    s: &[u8],
+    header: &Header,
+    layout: &Layout,
+    mut slice: impl FnMut(Range<usize>, usize) -> Result<usize, Refusal>,
+) -> Result<(), Refusal> {
     let mut at = header.first_slice;
-    let (mut t, mut first_row) = (0, 0);
-    while layout.slice_rows(t) > 0 {
-        at = a::slice_header(s, at, t)?;
-        let next_slice = first_row + layout.slice_rows(t);
-        for row in first_row..next_slice {
-            let packets = layout.packets(row);
-            for column in 0..layout.columns {
-                at = reader.precinct(at, row == first_row, column, &packets)?;
-            }
-        }
-        first_row = next_slice;
-        t += 1;
+    for (t, rows) in layout.slices().enumerate() {
+        at = slice(rows, a::slice_header(s, at, t)?)?;
     }
-    a::end_of_codestream(s, at)?;
-    let existing = reader.bands.iter().zip(&layout.bands).filter(|(_, band)| band.is_some());
-    let largest_t = existing.map(|(state, _)| state.largest_t).collect();
-    Ok((reader.planes, largest_t))
+    a::end_of_codestream(s, at)
+}
+
+/// L_prc of the precinct at an offset (Table C.1), as it is declared.
+pub fn precinct_length(s: &[u8], at: usize) -> Result<usize, Refusal> {
+    require(at + 3 <= s.len(), Row::Cut, at)?;
+    Ok(big_endian(&s[at..at + 3]) as usize)
+}
+
+/// The bytes of a precinct behind its header, `lprc` of them.
+pub fn precinct_body(s: &[u8], layout: &Layout, at: usize, lprc: usize) -> Result<Range<usize>, Refusal> {
+    let start = at + 5 + ceil_div(layout.existing(), 4);
+    require(start + lprc <= s.len(), Row::Length, at)?;
+    Ok(start..start + lprc)
 }
 
 /// The precinct that is being read: where it starts and ends, and its column.
@@ -91,11 +109,11 @@ struct Span {
     groups: Range<usize>,
 }
 
-struct Reader<'a> {
+pub struct Reader<'a> {
     s: &'a [u8],
     header: &'a Header,
     layout: &'a Layout,
-    planes: Vec<Plane>,
+    pub decoded: Decoded,
     /// By band index, as are the codings, which are fresh for each precinct.
     bands: Vec<BandState>,
     codings: Vec<Coding>,
@@ -104,9 +122,8 @@ struct Reader<'a> {
 }
 
 impl<'a> Reader<'a> {
-    fn new(s: &'a [u8], header: &'a Header, layout: &'a Layout) -> Reader<'a> {
+    pub fn new(s: &'a [u8], header: &'a Header, layout: &'a Layout) -> Reader<'a> {
         let state = |band: &Option<Band>| BandState {
-            largest_t: 0,
             counts: vec![0; band.map_or(0, |band| ceil_div(band.width, NG))],
             line_t: vec![0; layout.columns],
         };
@@ -114,47 +131,55 @@ impl<'a> Reader<'a> {
             s,
             header,
             layout,
-            planes: e::planes(layout),
+            decoded: Decoded { planes: e::planes(layout), largest_t: vec![0; layout.bands.len()] },
             bands: layout.bands.iter().map(state).collect(),
             codings: vec![Coding::default(); layout.bands.len()],
             indices: Vec::new(),
         }
     }
 
+    /// Reads a slice behind its header and gives the offset behind it. What stands in another slice does not matter: no band
+    /// is predicted from it (row 8).
+    pub fn slice(&mut self, rows: Range<usize>, mut at: usize) -> Result<usize, Refusal> {
+        for row in rows.clone() {
+            let packets = self.layout.packets(row);
+            for column in 0..self.layout.columns {
+                at = self.precinct(at, row == rows.start, column, &packets)?;
+            }
+        }
+        Ok(at)
+    }
+
     /// Reads a precinct and gives the offset behind it.
     fn precinct(&mut self, at: usize, top: bool, column: usize, packets: &[Vec<Line>]) -> Result<usize, Refusal> {
-        let (body, end) = self.precinct_header(at, top)?;
-        let precinct = Precinct { at, end, column };
-        let mut next = body;
+        let body = self.precinct_header(at, top)?;
+        let precinct = Precinct { at, end: body.end, column };
+        let mut next = body.start;
         for lines in packets {
             next = self.packet(&precinct, next, lines)?;
         }
-        require(next == end, Row::Length, at)?;
-        Ok(end)
+        require(next == precinct.end, Row::Length, at)?;
+        Ok(next)
     }
 
-    /// Reads a precinct header (C.2, Table C.1) and gives the ends of the header and of the precinct.
-    fn precinct_header(&mut self, at: usize, top: bool) -> Result<(usize, usize), Refusal> {
+    /// Reads a precinct header (C.2, Table C.1) and gives the bytes behind it.
+    fn precinct_header(&mut self, at: usize, top: bool) -> Result<Range<usize>, Refusal> {
         let s = self.s;
-        require(at + 3 <= s.len(), Row::Cut, at)?;
-        let lprc = big_endian(&s[at..at + 3]) as usize;
+        let lprc = precinct_length(s, at)?;
         require((1..1 << 20).contains(&lprc), Row::Value, at)?;
-        let modes = at + 5;
-        let body = modes + ceil_div(self.layout.existing(), 4);
-        let end = body + lprc;
-        require(end <= s.len(), Row::Length, at)?;
+        let body = precinct_body(s, self.layout, at, lprc)?;
         let (q, r) = (s[at + 3], s[at + 4]);
         require(q <= 31, Row::Value, at + 3)?;
         require(usize::from(r) < 2 * self.layout.bands.len(), Row::Value, at + 4)?;
         let existing = self.codings.iter_mut().zip(&self.layout.bands).filter(|(_, band)| band.is_some());
         for (n, ((coding, _), weight)) in existing.zip(&self.header.wgt).enumerate() {
-            let place = modes + n / 4;
+            let place = at + 5 + n / 4;
             let d = s[place] >> (6 - n % 4 * 2) & 3;
             require(!top || d & 1 == 0, Row::Mode, place)?;
             let t = truncation(q, r, *weight, self.header.br);
             *coding = Coding { d, t, raw: None };
         }
-        Ok((body, end))
+        Ok(body)
     }
 
     /// Reads a packet (C.4, Table C.5) and gives the offset behind it.
@@ -198,7 +223,7 @@ impl<'a> Reader<'a> {
         let band = self.layout.bands[line.band].as_ref().expect("packets hold existing bands");
         let x = self.layout.first_x(band, column);
         let width = self.layout.width(band, column);
-        let start = self.planes[band.component].cell(band, x, line.y);
+        let start = self.decoded.planes[band.component].cell(band, x, line.y);
         // The first coefficient of a column stands at a multiple of 8 (B.5), so code groups do not straddle columns.
         let groups = x / NG..x / NG + ceil_div(width, NG);
         let cells = start..start + width;
@@ -214,7 +239,8 @@ impl<'a> Reader<'a> {
         for span in spans {
             let band = &mut self.bands[span.band];
             let t_top = std::mem::replace(&mut band.line_t[span.column], span.coding.t);
-            band.largest_t = band.largest_t.max(span.coding.t);
+            let largest_t = &mut self.decoded.largest_t[span.band];
+            *largest_t = span.coding.t.max(*largest_t);
             let line = &mut band.counts[span.groups.clone()];
             if raw {
                 unpack_raw(&mut bits, self.header.br, line)?;
@@ -256,7 +282,7 @@ impl<'a> Reader<'a> {
             let (indices, others) = rest.split_at(span.groups.len());
             rest = others;
             let counts = &self.bands[span.band].counts[span.groups.clone()];
-            let cells = &mut self.planes[span.component].cells[span.cells.clone()];
+            let cells = &mut self.decoded.planes[span.component].cells[span.cells.clone()];
             d::dequantise(self.header.qpih, span.coding.t, self.header.fq, counts, indices, cells);
         }
     }

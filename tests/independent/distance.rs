@@ -3,11 +3,13 @@
 use super::a::Header;
 use super::b::Layout;
 
-/// The distance of each component, from the largest truncation position of each existing band.
+/// The distance of each component, from the largest truncation position of each band by index.
 pub fn components(header: &Header, layout: &Layout, largest_t: &[u32]) -> Vec<u64> {
     let mut inputs: Vec<Vec<u64>> = layout.shapes.iter().map(|_| Vec::new()).collect();
-    for (band, &t) in layout.bands.iter().flatten().zip(largest_t) {
-        inputs[band.component].push(band_number(t, header.fq));
+    for (band, &t) in layout.bands.iter().zip(largest_t) {
+        if let Some(band) = band {
+            inputs[band.component].push(band_number(t, header.fq));
+        }
     }
     let components = inputs.into_iter().zip(&layout.shapes);
     let mut numbers: Vec<u64> = components.map(|(bands, shape)| joined(&bands, shape.nlx, shape.nly)).collect();

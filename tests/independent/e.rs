@@ -6,21 +6,53 @@
 //! the start of a row, and no vertical step moves anything.
 
 use super::b::{ceil_div, Band, Layout};
+use std::ops::Range;
 
-/// A component: coefficients at first, samples at last.
-pub struct Plane {
+/// What the transformations of Annexes E and F go over. Each of their steps changes a value by something worked out from
+/// the sum of others.
+pub trait Value: Copy + Default {
+    fn changed<const N: usize>(self, others: [Self; N], change: impl Fn(i64) -> i64) -> Self;
+}
+
+/// Coefficients, which become samples.
+impl Value for i64 {
+    fn changed<const N: usize>(self, others: [i64; N], change: impl Fn(i64) -> i64) -> i64 {
+        self + change(others.iter().sum())
+    }
+}
+
+/// Whether a coefficient is lost, which becomes whether a sample depends on a lost one: by the form of the steps, whatever
+/// the change comes to.
+impl Value for bool {
+    fn changed<const N: usize>(self, others: [bool; N], _: impl Fn(i64) -> i64) -> bool {
+        others.iter().fold(self, |any, other| any | other)
+    }
+}
+
+/// A component: a value for each coefficient at first, for each sample at last.
+pub struct Plane<V> {
     pub width: usize,
     pub height: usize,
-    pub cells: Vec<i64>,
+    pub cells: Vec<V>,
 }
 
 /// Components without any coefficients yet.
-pub fn planes(layout: &Layout) -> Vec<Plane> {
-    let plane = |width, height| Plane { width, height, cells: vec![0; width * height] };
+pub fn planes<V: Value>(layout: &Layout) -> Vec<Plane<V>> {
+    let plane = |width, height| Plane { width, height, cells: vec![V::default(); width * height] };
     layout.shapes.iter().map(|shape| plane(shape.width, shape.height)).collect()
 }
 
-impl Plane {
+/// Gives one value to all coefficients in these rows of precincts, in all bands of all components.
+pub fn fill<V: Value>(planes: &mut [Plane<V>], layout: &Layout, rows: Range<usize>, value: V) {
+    for line in rows.flat_map(|row| layout.packets(row)).flatten() {
+        let band = layout.bands[line.band].as_ref().expect("packets hold existing bands");
+        let plane = &mut planes[band.component];
+        let start = plane.cell(band, 0, line.y);
+        plane.cells[start..start + band.width].fill(value);
+    }
+}
+
+impl<V: Value> Plane<V> {
     /// The cell of a band's coefficient at `x` and `y`; those to the right of it in the same line follow.
     pub fn cell(&self, band: &Band, x: usize, y: usize) -> usize {
         let row = if band.high_y { (2 * y + 1) << (band.dy - 1) } else { y << band.dy };
@@ -30,7 +62,7 @@ impl Plane {
 
     /// Transforms the component (Table E.1).
     pub fn inverse(&mut self, nlx: u32, nly: u32) {
-        let mut scratch = vec![0; self.width];
+        let mut scratch = vec![V::default(); self.width];
         for y in (0..self.height).step_by(1 << nly) {
             for dx in (nly + 1..=nlx).rev() {
                 self.join_across(y, dx, &mut scratch);
@@ -43,7 +75,7 @@ impl Plane {
 
     /// One level in both directions. Each row is filtered downwards as soon as the rows that it needs are there:
     /// an even one when the next has been joined across, an odd one after the even one below it.
-    fn join_level(&mut self, d: u32, scratch: &mut [i64]) {
+    fn join_level(&mut self, d: u32, scratch: &mut [V]) {
         let step = 1 << (d - 1);
         let width = ceil_div(self.width, step);
         let rows = ceil_div(self.height, step);
@@ -65,7 +97,7 @@ impl Plane {
     }
 
     /// `hor_transform` (E.4, Table E.3) on one row, from depth `dx` to `dx − 1`.
-    fn join_across(&mut self, y: usize, dx: u32, scratch: &mut [i64]) {
+    fn join_across(&mut self, y: usize, dx: u32, scratch: &mut [V]) {
         let width = ceil_div(self.width, 1 << (dx - 1));
         let row = &mut self.cells[y * self.width..][..width];
         let (low, high) = row.split_at(ceil_div(width, 2));
@@ -75,7 +107,7 @@ impl Plane {
 
     /// A step of `ver_transform` (E.5, Table E.4) on one row, with the rows `step` above and below it.
     /// By mirroring (E.6), a border row has its only neighbour on both sides.
-    fn filter_down(&mut self, y: usize, step: usize, width: usize, filter: impl Fn(i64, i64, i64) -> i64) {
+    fn filter_down(&mut self, y: usize, step: usize, width: usize, filter: impl Fn(V, V, V) -> V) {
         let (before, rest) = self.cells.split_at_mut(y * self.width);
         let (row, behind) = rest.split_at_mut(self.width);
         let above = y.checked_sub(step).map(|y| &before[y * self.width..][..width]);
@@ -90,7 +122,7 @@ impl Plane {
 
 /// Joins the low and high parts of a line (E.6 and E.7, Tables E.5 and E.6). By mirroring, a border repeats the high
 /// coefficient that is next to it, and a last odd sample has the even sample before it also behind it.
-fn join_line(low: &[i64], high: &[i64], out: &mut [i64]) {
+fn join_line<V: Value>(low: &[V], high: &[V], out: &mut [V]) {
     let mut even = even_sample(low[0], high[0], high[0]);
     for ((pair, highs), &low) in out.chunks_exact_mut(2).zip(high.windows(2)).zip(&low[1..]) {
         let next = even_sample(low, highs[0], highs[1]);
@@ -108,12 +140,12 @@ fn join_line(low: &[i64], high: &[i64], out: &mut [i64]) {
     }
 }
 
-fn even_sample(low: i64, before: i64, behind: i64) -> i64 {
-    low - ((before + behind + 2) >> 2)
+fn even_sample<V: Value>(low: V, before: V, behind: V) -> V {
+    low.changed([before, behind], |sum| -((sum + 2) >> 2))
 }
 
-fn odd_sample(high: i64, before: i64, behind: i64) -> i64 {
-    high + ((before + behind) >> 1)
+fn odd_sample<V: Value>(high: V, before: V, behind: V) -> V {
+    high.changed([before, behind], |sum| sum >> 1)
 }
 
 #[cfg(test)]
@@ -121,11 +153,11 @@ mod tests {
     use super::*;
 
     /// Joins low and high coefficients across, and also down in a component of one column over another.
-    fn both_ways(low: &[i64], high: &[i64]) -> Vec<i64> {
-        let mut line = vec![0; low.len() + high.len()];
+    fn both_ways<V: Value + PartialEq>(low: &[V], high: &[V]) -> Vec<V> {
+        let mut line = vec![V::default(); low.len() + high.len()];
         join_line(low, high, &mut line);
         // A high part of 0 across leaves the low part as it is.
-        let rows = (0..line.len()).flat_map(|y| [if y % 2 == 0 { low[y / 2] } else { high[y / 2] }, 0]);
+        let rows = (0..line.len()).flat_map(|y| [if y % 2 == 0 { low[y / 2] } else { high[y / 2] }, V::default()]);
         let mut plane = Plane { width: 2, height: line.len(), cells: rows.collect() };
         plane.inverse(1, 1);
         assert!(plane.cells.chunks(2).map(|row| row[0]).eq(line.iter().copied()));
@@ -136,5 +168,31 @@ mod tests {
     fn checked_figures() {
         assert_eq!(both_ways(&[10, 12], &[3, -1]), [8, 12, 11, 10]);
         assert_eq!(both_ways(&[-3, 1], &[-2]), [-2, -2, 2]);
+    }
+
+    /// The samples of a line that depend on one lost coefficient, given by its place between the others.
+    fn reach(length: usize, place: usize) -> Vec<usize> {
+        let part = |first: usize| (first..length).step_by(2).map(|n| n == place).collect::<Vec<bool>>();
+        let marks = both_ways(&part(0), &part(1));
+        (0..length).filter(|&n| marks[n]).collect()
+    }
+
+    #[test]
+    fn lost_coefficients_reach_their_neighbours() {
+        assert_eq!(reach(10, 4), [3, 4, 5]);
+        assert_eq!(reach(10, 5), [3, 4, 5, 6, 7]);
+    }
+
+    #[test]
+    fn lost_coefficients_reach_up_to_the_borders() {
+        assert_eq!(reach(8, 0), [0, 1]);
+        assert_eq!(reach(8, 1), [0, 1, 2, 3]);
+        assert_eq!(reach(8, 6), [5, 6, 7]);
+        assert_eq!(reach(8, 7), [5, 6, 7]);
+        assert_eq!(reach(9, 7), [5, 6, 7, 8]);
+        assert_eq!(reach(9, 8), [7, 8]);
+        assert_eq!(reach(2, 0), [0, 1]);
+        assert_eq!(reach(2, 1), [0, 1]);
+        assert_eq!(reach(3, 2), [1, 2]);
     }
 }

@@ -1,15 +1,15 @@
 //! Prints the layout that a header describes (Annex B), one item on a line.
 
-use crate::print_refusal;
 use independent::a;
 use independent::b::{Band, Layout};
+use independent::text;
 use std::io::{self, Write};
 
 /// Prints the layout for a stream whose header is accepted, else the refusal.
 pub fn print(out: &mut impl Write, stream: &[u8]) -> io::Result<()> {
     let header = match a::header(stream) {
         Ok(header) => header,
-        Err(refusal) => return print_refusal(out, refusal),
+        Err(refusal) => return text::refusal(out, refusal),
     };
     let layout = Layout::new(&header);
     print_bands(out, &layout)?;
@@ -43,11 +43,9 @@ fn print_bands(out: &mut impl Write, layout: &Layout) -> io::Result<()> {
 /// The grid of precincts (B.5) and its slices (B.11).
 fn print_slices(out: &mut impl Write, layout: &Layout) -> io::Result<()> {
     writeln!(out, "columns {} rows {}", layout.columns, layout.rows)?;
-    let mut first = 0;
-    for (t, rows) in (0..).map(|t| layout.slice_rows(t)).take_while(|&rows| rows > 0).enumerate() {
-        let count = rows * layout.columns;
+    for (t, rows) in layout.slices().enumerate() {
+        let (first, count) = (rows.start * layout.columns, rows.len() * layout.columns);
         writeln!(out, "slice {t} first {first} count {count}")?;
-        first += count;
     }
     Ok(())
 }

@@ -7,10 +7,12 @@ pub mod b;
 mod bits;
 pub mod c;
 pub mod d;
+pub mod damaged;
 pub mod distance;
 pub mod e;
 pub mod f;
 pub mod g;
+pub mod text;
 
 /// The rows of document 01's table of refusal numbers, but for row 0.
 #[derive(Clone, Copy, Debug, PartialEq, Eq)]
@@ -59,14 +61,35 @@ pub struct Page {
     pub caption: bool,
 }
 
+/// For each component, row by row: whether a sample depends on a lost coefficient.
+pub type Marks = Vec<Vec<bool>>;
+
 /// Reads one whole codestream into at most `room` sample cells over all components.
 pub fn read(s: &[u8], room: usize) -> Result<Page, Refusal> {
+    let (header, layout) = opened(s, room)?;
+    let decoded = c::codestream(s, &header, &layout)?;
+    Ok(page(&header, &layout, decoded))
+}
+
+/// As `read`, but what breaks a rule inside a slice loses that slice and not the page (document 02, C-15). There is room
+/// for as many marks as samples.
+pub fn read_damaged(s: &[u8], room: usize) -> Result<(Page, Marks), Refusal> {
+    let (header, layout) = opened(s, room)?;
+    let (decoded, lost) = damaged::codestream(s, &header, &layout)?;
+    Ok((page(&header, &layout, decoded), marks(&header, &layout, lost)))
+}
+
+/// All up to the fields of the first slice header.
+fn opened(s: &[u8], room: usize) -> Result<(a::Header, b::Layout), Refusal> {
     let header = a::header(s)?;
     let layout = b::Layout::new(&header);
     require(layout.samples() <= room, Row::Buffer, header.first_slice)?;
-    let (planes, largest_t) = c::codestream(s, &header, &layout)?;
-    let distances = distance::components(&header, &layout, &largest_t);
-    let samples = reconstruct(&header, &layout, planes);
+    Ok((header, layout))
+}
+
+fn page(header: &a::Header, layout: &b::Layout, decoded: c::Decoded) -> Page {
+    let distances = distance::components(header, layout, &decoded.largest_t);
+    let samples = reconstruct(header, layout, decoded.planes);
     let components = header.cdt.iter().zip(&layout.shapes).zip(distances.into_iter().zip(samples));
     let components = components.map(|((entry, shape), (distance, samples))| Component {
         width: shape.width,
@@ -75,19 +98,30 @@ pub fn read(s: &[u8], room: usize) -> Result<Page, Refusal> {
         distance,
         samples,
     });
-    Ok(Page { components: components.collect(), caption: header.caption })
+    Page { components: components.collect(), caption: header.caption }
 }
 
 /// The samples of each component from its coefficients, multiplied by 2^Fq (Annexes E to G).
-pub fn reconstruct(header: &a::Header, layout: &b::Layout, mut planes: Vec<e::Plane>) -> Vec<Vec<u16>> {
+pub fn reconstruct(header: &a::Header, layout: &b::Layout, mut planes: Vec<e::Plane<i64>>) -> Vec<Vec<u16>> {
+    transform(header, layout, &mut planes);
+    let outputs = planes.into_iter().zip(&header.cdt);
+    outputs.map(|(plane, entry)| g::output(&plane.cells, header.bw, entry.b)).collect()
+}
+
+/// The marks of each component from what is lost of its coefficients. Annex G makes each sample from one value.
+pub fn marks(header: &a::Header, layout: &b::Layout, mut lost: Vec<e::Plane<bool>>) -> Marks {
+    transform(header, layout, &mut lost);
+    lost.into_iter().map(|plane| plane.cells).collect()
+}
+
+/// Annexes E and F.
+fn transform<V: e::Value>(header: &a::Header, layout: &b::Layout, planes: &mut [e::Plane<V>]) {
     for (plane, shape) in planes.iter_mut().zip(&layout.shapes) {
         plane.inverse(shape.nlx, shape.nly);
     }
     if header.cpih == 1 {
-        f::inverse_rct(&mut planes);
+        f::inverse_rct(planes);
     }
-    let outputs = planes.into_iter().zip(&header.cdt);
-    outputs.map(|(plane, entry)| g::output(&plane.cells, header.bw, entry.b)).collect()
 }
 
 #[cfg(test)]

@@ -1,6 +1,6 @@
-//! The samples of a page as PGM or PPM files, with the distances in comment lines.
+//! The samples of a page as PGM or PPM files, with the distances in comment lines; and its marks as PGM masks.
 
-use independent::{Component, Page};
+use independent::{Component, Marks, Page};
 use std::fs::File;
 use std::io::{self, BufWriter, Write};
 
@@ -31,4 +31,16 @@ fn write_one(name: &str, number: usize, components: &[Component]) -> io::Result<
         }
     }
     out.flush()
+}
+
+/// For a single component the mask `name.lost`, else for each component `i` the mask `name.i.lost`: white where lost, else black.
+pub fn write_masks(name: &str, page: &Page, marks: &Marks) -> io::Result<()> {
+    for (i, (component, marks)) in page.components.iter().zip(marks).enumerate() {
+        let name = if page.components.len() == 1 { format!("{name}.lost") } else { format!("{name}.{i}.lost") };
+        let mut out = BufWriter::new(File::create(name)?);
+        write!(out, "P5\n{} {}\n255\n", component.width, component.height)?;
+        out.write_all(&marks.iter().map(|&lost| if lost { 255 } else { 0 }).collect::<Vec<u8>>())?;
+        out.flush()?;
+    }
+    Ok(())
 }

@@ -87,7 +87,7 @@ fn set_head_field(rng: &mut Rng, stream: &mut Stream) {
 }
 
 /// Gives a field a value at the bounds of its own range or of one that the standard names.
-fn to_a_bound(rng: &mut Rng, stream: &mut Stream, field: Field) {
+pub fn to_a_bound(rng: &mut Rng, stream: &mut Stream, field: Field) {
     let all = u64::MAX >> (64 - field.width);
     let named = [0, 1, 2, 3, 4, 5, 6, 7, 8, 9, 12, 13, 15, 16, 17, 18, 19, 20, 26, 31, 32, 79, 80, 127, 128, 255];
     let large = [256, 0x7fff, 0x8000, 0x8b01, 16_384, 16_385, 0xff11, 0xff14, 0xff20, 0xff21, (1 << 20) - 1, 1 << 20];
@@ -147,14 +147,14 @@ fn insert_segment(rng: &mut Rng, stream: &mut Stream) {
 }
 
 /// Q or R of a precinct; they follow its length (Table C.1).
-fn set_precinct_field(rng: &mut Rng, stream: &mut Stream) {
+pub fn set_precinct_field(rng: &mut Rng, stream: &mut Stream) {
     let precinct = stream.subpackets[rng.below(stream.subpackets.len())].precinct;
     let field = Field { bit: precinct.bit + rng.pick(&[24, 32]), width: 8 };
     to_a_bound(rng, stream, field);
 }
 
 /// Takes any number of bytes from the end of a precinct, with its length mended.
-fn trim_precinct(rng: &mut Rng, stream: &mut Stream) {
+pub fn trim_precinct(rng: &mut Rng, stream: &mut Stream) {
     let precinct = stream.subpackets[rng.below(stream.subpackets.len())].precinct;
     let end = precinct_end(stream, precinct);
     let length = precinct.get(&stream.bytes) as usize;
@@ -163,12 +163,12 @@ fn trim_precinct(rng: &mut Rng, stream: &mut Stream) {
     stream.bytes.drain(end - (length - left)..end);
 }
 
-fn precinct_end(stream: &Stream, precinct: Field) -> usize {
+pub fn precinct_end(stream: &Stream, precinct: Field) -> usize {
     let last = stream.subpackets.iter().rev().find(|subpacket| subpacket.precinct.bit == precinct.bit);
     last.map_or(0, |subpacket| subpacket.bytes.end)
 }
 
-fn flip_raw_flag(rng: &mut Rng, stream: &mut Stream) {
+pub fn flip_raw_flag(rng: &mut Rng, stream: &mut Stream) {
     let raw = stream.subpackets[rng.below(stream.subpackets.len())].raw;
     let flag = raw.get(&stream.bytes);
     raw.set(&mut stream.bytes, 1 - flag);
@@ -188,7 +188,7 @@ fn shorten_subpacket(rng: &mut Rng, stream: &mut Stream) {
 }
 
 /// Gives a precinct bytes that no packet holds.
-fn grow_precinct(rng: &mut Rng, stream: &mut Stream) {
+pub fn grow_precinct(rng: &mut Rng, stream: &mut Stream) {
     let choice = rng.below(stream.subpackets.len());
     let precinct = stream.subpackets[choice].precinct;
     let end = precinct_end(stream, precinct);
@@ -200,7 +200,7 @@ fn grow_precinct(rng: &mut Rng, stream: &mut Stream) {
 }
 
 /// Writes ones over the end of a count subpacket, so that a code is too long or cut.
-fn lengthen_code(rng: &mut Rng, stream: &mut Stream) {
+pub fn lengthen_code(rng: &mut Rng, stream: &mut Stream) {
     let mut counts = stream.subpackets_of(Content::Counts);
     counts.retain(|subpacket| !subpacket.bytes.is_empty());
     if counts.is_empty() {
@@ -213,7 +213,7 @@ fn lengthen_code(rng: &mut Rng, stream: &mut Stream) {
 }
 
 /// Makes a count subpacket begin, and perhaps end, with about as many ones as a code may have; both lengths are mended.
-fn replace_counts(rng: &mut Rng, stream: &mut Stream) {
+pub fn replace_counts(rng: &mut Rng, stream: &mut Stream) {
     let counts = stream.subpackets_of(Content::Counts);
     let subpacket = counts[rng.below(counts.len())].clone();
     let mut bytes = vec![0xff; rng.pick(&[3, 4, 5, 7, 8, 9])];
@@ -232,7 +232,7 @@ fn cut(rng: &mut Rng, stream: &mut Stream) {
     stream.bytes.truncate(length);
 }
 
-fn add_tail(rng: &mut Rng, stream: &mut Stream) {
+pub fn add_tail(rng: &mut Rng, stream: &mut Stream) {
     let length = rng.between(1, 4);
     let tail = rng.bytes(length);
     stream.bytes.extend(tail);

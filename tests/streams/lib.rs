@@ -10,6 +10,7 @@ mod forward;
 mod leftover;
 mod picture;
 mod rng;
+mod spoilt;
 mod stream;
 mod write;
 
@@ -30,6 +31,12 @@ pub enum Kind {
     Coefficients,
     /// Spoilt streams.
     Damaged,
+    /// Pages of which slices are spoilt.
+    Spoilt,
+    /// Pages that differ from a sound one in one slice, outside slice headers and precinct lengths.
+    Apart,
+    /// The sound pages that those differ from, by the same seed.
+    Twin,
     /// Pages with one header field at a bound, or one segment in a wrong place.
     Bounds,
     /// Files of other formats.
@@ -38,11 +45,14 @@ pub enum Kind {
     Header,
 }
 
-pub const KINDS: [(&str, Kind); 7] = [
+pub const KINDS: [(&str, Kind); 10] = [
     ("syntax", Kind::Syntax),
     ("picture", Kind::Picture),
     ("coefficients", Kind::Coefficients),
     ("damaged", Kind::Damaged),
+    ("spoilt", Kind::Spoilt),
+    ("apart", Kind::Apart),
+    ("twin", Kind::Twin),
     ("bounds", Kind::Bounds),
     ("foreign", Kind::Foreign),
     ("header", Kind::Header),
@@ -80,12 +90,39 @@ pub fn make(kind: Kind, seed: u64, limits: Limits) -> Made {
             let (what, bytes) = damage::spoil(&mut rng, stream);
             (format!("damaged-{}-{}", seed, what), bytes, None)
         }
+        Kind::Spoilt => {
+            let (stream, _) = in_slices(&mut rng, limits);
+            let (what, bytes) = spoilt::spoil(&mut rng, stream);
+            (format!("spoilt-{}-{}", seed, what), bytes, None)
+        }
+        Kind::Apart => {
+            let (mut stream, exact) = in_slices(&mut rng, limits);
+            let what = spoilt::set_apart(&mut rng, &mut stream);
+            (format!("apart-{}-{}", seed, what), stream.bytes, exact)
+        }
+        Kind::Twin => {
+            let (stream, exact) = in_slices(&mut rng, limits);
+            (format!("twin-{}", seed), stream.bytes, exact)
+        }
         _ => {
             let (stream, exact) = sound(&mut rng, kind, limits);
             (format!("{:?}-{}", kind, seed).to_lowercase(), stream.bytes, exact)
         }
     };
-    Made { name, bytes, sound: matches!(kind, Kind::Syntax | Kind::Picture | Kind::Coefficients), exact }
+    let sound = matches!(kind, Kind::Syntax | Kind::Picture | Kind::Coefficients | Kind::Twin);
+    Made { name, bytes, sound, exact }
+}
+
+/// A sound stream, mostly one of several slices.
+fn in_slices(rng: &mut Rng, limits: Limits) -> (Stream, Option<Vec<Vec<u16>>>) {
+    let any_number = rng.once_in(8);
+    loop {
+        let kind = rng.pick(&[Kind::Syntax, Kind::Picture, Kind::Coefficients]);
+        let made = sound(rng, kind, limits);
+        if any_number || made.0.slices().len() > 1 {
+            return made;
+        }
+    }
 }
 
 /// Makes a sheet of letters to measure with.

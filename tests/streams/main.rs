@@ -1,7 +1,7 @@
 //! Writes a stream for tests to standard output.
 //!
-//! Usage: `stream KIND SEED [large]`, KIND being syntax, picture, coefficients, damaged, bounds, foreign
-//! or header; or
+//! Usage: `stream KIND SEED [large]`, KIND being syntax, picture, coefficients, damaged, spoilt, apart, twin, bounds,
+//! foreign or header; or
 //! `stream measured NAME WIDTH HEIGHT`, NAME being lossless, lossy, subsampled, sheet,
 //! uniform or uniform-lossless.
 

@@ -16,6 +16,25 @@ impl Stream {
     pub fn subpackets_of(&self, content: Content) -> Vec<&Subpacket> {
         self.subpackets.iter().filter(|subpacket| subpacket.content == content).collect()
     }
+
+    /// The bytes of each slice behind its header.
+    pub fn slices(&self) -> Vec<Range<usize>> {
+        let is_slice = |segment: &Range<usize>| self.bytes[segment.start + 1] == 0x20;
+        let pairs = self.segments.windows(2).filter(|pair| is_slice(&pair[0]));
+        pairs.map(|pair| pair[0].end..pair[1].start).collect()
+    }
+
+    /// The same stream with notes on one stretch alone.
+    pub fn within(&self, stretch: &Range<usize>) -> Stream {
+        let fields = self.fields.iter().filter(|field| stretch.contains(&(field.bit / 8)));
+        let subpackets = self.subpackets.iter().filter(|subpacket| stretch.contains(&(subpacket.precinct.bit / 8)));
+        Stream {
+            bytes: self.bytes.clone(),
+            fields: fields.copied().collect(),
+            segments: Vec::new(),
+            subpackets: subpackets.cloned().collect(),
+        }
+    }
 }
 
 /// What a subpacket holds.

@@ -37,16 +37,14 @@ pub fn stream(rng: &mut Rng, header: &Header, layout: &Layout, manner: Manner, s
         counts: layout.bands.iter().map(|band| vec![0; band.map_or(0, |band| band.width / NG + 1)]).collect(),
         line_t: vec![vec![0; layout.columns]; layout.bands.len()],
     };
-    let mut first_row = 0;
-    for (t, rows) in (0..).map(|t| layout.slice_rows(t)).take_while(|&rows| rows > 0).enumerate() {
+    for (t, rows) in layout.slices().enumerate() {
         writer.draft.segment(0xff20, &[(t as u64, 16)]);
-        for row in first_row..first_row + rows {
+        for row in rows.clone() {
             let packets = layout.packets(row);
             for column in 0..layout.columns {
-                writer.precinct(row == first_row, column, &packets);
+                writer.precinct(row == rows.start, column, &packets);
             }
         }
-        first_row += rows;
     }
     let mut draft = writer.draft;
     draft.marker(0xff11);

@@ -1,15 +1,19 @@
 -- The laws of F.3 at a pixel: distance, size, and what the machine's words hold. Assumes nothing.
-use mathlib.Core.Path.{_≡_, refl}
-use Prim.Native.Nat.{ℕ, _+_, _^_, _≤_}
+use mathlib.Core.Path.{_≡_, refl, _∙_}
+use Prim.Native.Nat.{ℕ, _+_, _*_, _^_, _≤_}
+use native.Mathlib.Decide.{ℕ-discrete}
 use native.Mathlib.Omega.{arith}
+use borrow.Author.Tests.{eq-eqb, ne-eqb}
 use lib.IntN.{ℤ, pos, natAbs, _+ℤ_}
-use lib.Signed.{shrZ}
+use lib.Dec.{T}
+use lib.Signed.{shrZ, nonNeg}
 use mir.Syntax.{w64}
-use mir.Val.{SFits}
+use mir.Val.{Fits, SFits, toZ, ofZ}
 use Rattle.whole.specs.Numbers.{ceilDiv}
 use Rattle.whole.proofs.Within.{within-add, within-sub, within-shr, within-of-size, size-of-within}
-use Rattle.whole.proofs.Machine.{small-fits, shr-fits, size-add}
+use Rattle.whole.proofs.Machine.{small-fits, shr-fits, size-add, read-small, cast-pos}
 use Rattle.colour.specs.Rct.{inverseRct, numbersRct, PixelsWithin, Small}
+use Rattle.colour.specs.Kinds.{sizes, raisedRct, rctOf}
 use Rattle.colour.specs.declared.Pixel.{Pixel}
 use Rattle.colour.specs.declared.Numbers.{Numbers}
 
@@ -73,3 +77,28 @@ fitting {i} h =
       o₁ = small-fits _ (omega arith);
       o₂ = small-fits _ (omega arith);
     }
+
+-- ---- numbers: each is read as unsigned too, and rule 3 takes none out of the signed words
+pub number-cast : (z : ℤ) → natAbs z ≤ 2 ^ 60 → z ≡ pos (natAbs z) → T (nonNeg (toZ w64 (ofZ w64 z))) × Fits w64 (natAbs (toZ w64 (ofZ w64 z)))
+number-cast z h e = cast-pos _ (natAbs z) (read-small z (omega arith) ∙ e) (omega arith)
+
+pub numbers-most : {B : ℕ} (e : Numbers) → (e .c0 ≤ B) × (e .c1 ≤ B) × (e .c2 ≤ B)
+    → (numbersRct e .c0 ≤ 3 * B) × (numbersRct e .c1 ≤ 3 * B) × (numbersRct e .c2 ≤ 3 * B)
+unfolding numbersRct
+numbers-most e h = (omega arith, omega arith, omega arith)
+
+-- whatever the kind, the pixel that comes out fits
+pub record Fitted (o : Pixel) : Type 0 where
+  pub o₀ : SFits w64 (o .c0)
+  pub o₁ : SFits w64 (o .c1)
+  pub o₂ : SFits w64 (o .c2)
+
+pub fitted : {i : Pixel} → Small (2 ^ 60) i → (kind : ℕ) → Fitted (rctOf kind i)
+unfolding rctOf raisedRct
+fitted {i} h kind = pick (ℕ-discrete kind 0)
+  where
+    pick : Dec (kind ≡ 0) → Fitted (rctOf kind i)
+    pick (yes e) = let f = fitting h in rw (eq-eqb kind 0 e) (record { o₀ = f .o₀; o₁ = f .o₁; o₂ = f .o₂ })
+    pick (no e) =
+        let m = numbers-most (sizes i) (h .c0, h .c1, h .c2) in
+        rw (ne-eqb kind 0 e) (record { o₀ = small-fits _ (omega arith); o₁ = small-fits _ (omega arith); o₂ = small-fits _ (omega arith) })

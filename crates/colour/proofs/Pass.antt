@@ -9,8 +9,7 @@ use lib.IntN.{ℤ, pos}
 use lib.ListN.{length, set, length-set}
 use lib.Seq.{getD-set-same, getD-set-other, ext-getD}
 use Rattle.whole.specs.Cells.{cell}
-use Rattle.colour.specs.Rct.{inverseRct}
-use Rattle.colour.specs.Pass.{pixel, put, Stretches, Transformed}
+use Rattle.colour.specs.Pass.{pixel, put, Stretches, TransformedBy}
 use Rattle.colour.specs.declared.Pixel.{Pixel}
 
 -- ---- a pixel is put at p, q and r
@@ -40,10 +39,10 @@ module _ (l : List ℤ) (p q r : ℕ) (o : Pixel) where
 
 -- ---- the pass
 
-pub pass-starts : {first second third : ℕ} {l : List ℤ} → Transformed first second third 0 l l
+pub pass-starts : {f : Pixel → Pixel} {first second third : ℕ} {l : List ℤ} → TransformedBy f first second third 0 l l
 pass-starts = record { same = refl; on = λ x h. absurd (omega arith); off = λ j h. refl }
 
-module _ {first second third n x : ℕ} {l l′ : List ℤ} (s : Stretches first second third n l) (t : Transformed first second third x l l′) (b : x < n) where
+module _ {f : Pixel → Pixel} {first second third n x : ℕ} {l l′ : List ℤ} (s : Stretches first second third n l) (t : TransformedBy f first second third x l l′) (b : x < n) where
   -- the turn's pixel is as it was
   pub pass-here : pixel l′ (first + x) (second + x) (third + x) ≡ pixel l (first + x) (second + x) (third + x)
   pass-here =
@@ -54,7 +53,7 @@ module _ {first second third n x : ℕ} {l l′ : List ℤ} (s : Stretches first
       )
 
   -- a turn
-  pub pass-goes-on : Transformed first second third (x + 1) l (put l′ (first + x) (second + x) (third + x) (inverseRct (pixel l′ (first + x) (second + x) (third + x))))
+  pub pass-goes-on : TransformedBy f first second third (x + 1) l (put l′ (first + x) (second + x) (third + x) (f (pixel l′ (first + x) (second + x) (third + x))))
   pass-goes-on = record {
     same = simp length-set (t .same);
     on = λ y h. on′ y h (ℕ-discrete y x);
@@ -62,7 +61,7 @@ module _ {first second third n x : ℕ} {l l′ : List ℤ} (s : Stretches first
   }
     where
       o : Pixel
-      o = inverseRct (pixel l′ (first + x) (second + x) (third + x))
+      o = f (pixel l′ (first + x) (second + x) (third + x))
 
       m : List ℤ
       m = put l′ (first + x) (second + x) (third + x) o
@@ -70,9 +69,9 @@ module _ {first second third n x : ℕ} {l l′ : List ℤ} (s : Stretches first
       other : (j : ℕ) → (j ≢ first + x) × (j ≢ second + x) × (j ≢ third + x) → cell m j ≡ cell l′ j
       other = put-off l′ (first + x) (second + x) (third + x) o
 
-      on′ : (y : ℕ) → y < x + 1 → Dec (y ≡ x) → pixel m (first + y) (second + y) (third + y) ≡ inverseRct (pixel l (first + y) (second + y) (third + y))
+      on′ : (y : ℕ) → y < x + 1 → Dec (y ≡ x) → pixel m (first + y) (second + y) (third + y) ≡ f (pixel l (first + y) (second + y) (third + y))
       on′ y h (yes e) =
-          rw e (put-on l′ (first + x) (second + x) (third + x) o (omega (arith, s .inside, t .same)) (s .apart x x b b) ∙ ap inverseRct pass-here)
+          rw e (put-on l′ (first + x) (second + x) (third + x) o (omega (arith, s .inside, t .same)) (s .apart x x b b) ∙ ap f pass-here)
       on′ y h (no e) =
           let k : y < n = omega arith in
           rw (
@@ -97,8 +96,8 @@ place base n j = pick (decLe base j) (decLt j (base + n))
     pick (yes p) (no q) = outside (λ x h e. q (omega arith))
     pick (no p) q = outside (λ x h e. p (omega arith))
 
-pub pass-unique : {first second third n : ℕ} {l l′ l″ : List ℤ} → Transformed first second third n l l′ → Transformed first second third n l l″ → l′ ≡ l″
-pass-unique {first} {second} {third} {n} {l} {l′} {l″} t u =
+pub pass-unique : {f : Pixel → Pixel} {first second third n : ℕ} {l l′ l″ : List ℤ} → TransformedBy f first second third n l l′ → TransformedBy f first second third n l l″ → l′ ≡ l″
+pass-unique {f} {first} {second} {third} {n} {l} {l′} {l″} t u =
     ext-getD (pos 0) l′ l″ (t .same ∙ sym (u .same)) (λ j h. at j (place first n j) (place second n j) (place third n j))
   where
     both : (x : ℕ) → x < n → pixel l′ (first + x) (second + x) (third + x) ≡ pixel l″ (first + x) (second + x) (third + x)
@@ -106,7 +105,7 @@ pass-unique {first} {second} {third} {n} {l} {l′} {l″} t u =
 
     at : (j : ℕ) → Place first n j → Place second n j → Place third n j → cell l′ j ≡ cell l″ j
     at j (within x h e) q r = rw e (ap (λ (p : Pixel). p .c0) (both x h))
-    at j (outside f) (within x h e) r = rw e (ap (λ (p : Pixel). p .c1) (both x h))
-    at j (outside f) (outside g) (within x h e) = rw e (ap (λ (p : Pixel). p .c2) (both x h))
-    at j (outside f) (outside g) (outside k) =
-        t .off j (λ x h. (f x h, g x h, k x h)) ∙ sym (u .off j (λ x h. (f x h, g x h, k x h)))
+    at j (outside g) (within x h e) r = rw e (ap (λ (p : Pixel). p .c1) (both x h))
+    at j (outside g) (outside k) (within x h e) = rw e (ap (λ (p : Pixel). p .c2) (both x h))
+    at j (outside g) (outside k) (outside m) =
+        t .off j (λ x h. (g x h, k x h, m x h)) ∙ sym (u .off j (λ x h. (g x h, k x h, m x h)))

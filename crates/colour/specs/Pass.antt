@@ -7,6 +7,7 @@ use lib.IntN.{ℤ}
 use lib.ListN.{length, set}
 use Rattle.whole.specs.Cells.{cell}
 use Rattle.colour.specs.Rct.{inverseRct, Small}
+use Rattle.colour.specs.Kinds.{Holds}
 use Rattle.colour.specs.declared.Pixel.{Pixel}
 
 -- the pixel whose components are the cells at p, q and r
@@ -23,8 +24,16 @@ pub record Stretches (first second third n : ℕ) (l : List ℤ) : Type 0 where
   pub apart : (x y : ℕ) → x < n → y < n → (first + x ≢ second + y) × (first + x ≢ third + y) × (second + x ≢ third + y)
   pub small : (x : ℕ) → x < n → Small (2 ^ 60) (pixel l (first + x) (second + x) (third + x))
 
--- l′ is l after Table F.2 at the n pixels, and with no other cell changed
-pub record Transformed (first second third n : ℕ) (l l′ : List ℤ) : Type 0 where
+-- whose pixels hold numbers
+pub record HoldingNumbers (first second third n : ℕ) (l : List ℤ) : Type 0 where
+  pub holds : (x : ℕ) → x < n → Holds (pixel l (first + x) (second + x) (third + x))
+
+-- l′ is l after f at the n pixels, and with no other cell changed
+pub record TransformedBy (f : Pixel → Pixel) (first second third n : ℕ) (l l′ : List ℤ) : Type 0 where
   pub same : length l′ ≡ length l
-  pub on : (x : ℕ) → x < n → pixel l′ (first + x) (second + x) (third + x) ≡ inverseRct (pixel l (first + x) (second + x) (third + x))
+  pub on : (x : ℕ) → x < n → pixel l′ (first + x) (second + x) (third + x) ≡ f (pixel l (first + x) (second + x) (third + x))
   pub off : (j : ℕ) → ((x : ℕ) → x < n → (j ≢ first + x) × (j ≢ second + x) × (j ≢ third + x)) → cell l′ j ≡ cell l j
+
+-- the same with Table F.2
+abbrev pub Transformed : ℕ → ℕ → ℕ → ℕ → List ℤ → List ℤ → Type 0
+Transformed = TransformedBy inverseRct

@@ -1,4 +1,5 @@
--- F.3, the inverse reversible multiple component transformation (inverse RCT) of a pixel, and document 01's distance rule for it.
+-- F.3, the inverse reversible multiple component transformation (inverse RCT) of a pixel, document 01's distance rule for it, and what depends on what in it.
+use mathlib.Core.Bool.{Bool, _||_}
 use Prim.Native.Nat.{ℕ, _+_, _^_, _≤_}
 use lib.IntN.{ℤ, natAbs, _+ℤ_, _-ℤ_}
 use lib.Signed.{shrZ}
@@ -18,6 +19,18 @@ unfoldable pub numbersRct : Numbers → Numbers
 numbersRct e =
     let g : ℕ = e .c0 + ceilDiv (e .c1 + e .c2) 4 in
     record { c0 = g + e .c2; c1 = g; c2 = g + e .c1 }
+
+-- a mark beside each component of a pixel
+pub record Marks : Type 0 where
+  pub c0 : Bool
+  pub c1 : Bool
+  pub c2 : Bool
+
+-- which of red, green and blue depend on a marked component, by the form of Table F.2: each on all that it is made of, even where the sum comes out the same
+unfoldable pub marksRct : Marks → Marks
+marksRct m =
+    let g : Bool = m .c0 || (m .c1 || m .c2) in
+    record { c0 = g || m .c2; c1 = g; c2 = g || m .c1 }
 
 -- two pixels whose components differ by at most e's numbers
 pub record PixelsWithin (e : Numbers) (p q : Pixel) : Type 0 where

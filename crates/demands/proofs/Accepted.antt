@@ -1,6 +1,7 @@
 -- A page that is read: what the answer 0 says of the stream, of the record and of the samples. Assumes nothing.
 use mathlib.Core.Path.{_≡_, refl, sym, ap, _∙_}
-use mathlib.Core.List.{List, _++_}
+use mathlib.Core.Bool.{Bool, true, false, cond}
+use mathlib.Core.List.{List, [], _++_}
 use Prim.Native.Nat.{ℕ, _+_, _*_, _<_}
 use native.Mathlib.Omega.{arith}
 use lib.IntN.{ℤ}
@@ -14,79 +15,112 @@ use Rattle.layout.specs.Cells.{samples}
 use Rattle.layout.proofs.Cells.{starts-up}
 use Rattle.header.specs.Header.{readingOf}
 use Rattle.header.specs.declared.header.Header.{Header}
+use Rattle.slices.specs.Stream.{stream}
+use Rattle.damage.specs.Stream.{streamBy}
+use Rattle.planes.specs.Values.{Values, planes}
+use Rattle.planes.specs.Marks.{bit}
 use Rattle.planes.specs.Places.{Inside}
 use Rattle.planes.proofs.Stretches.{offset-below}
-use Rattle.planes.proofs.Planes.{planes-at}
+use Rattle.planes.proofs.Planes.{planes-length, planes-at}
 use Rattle.reader.specs.declared.page.Page.{Page}
-use Rattle.reader.specs.Settings.{roomChecks}
-use Rattle.reader.specs.Decoding.{samplesFrom, handed, distancesFrom, decodedVerdict, tops, coefficients}
+use Rattle.reader.specs.Decoding.{samplesFrom, handed, distancesFrom, decoded, decodedVerdict, tops, coefficients}
 use Rattle.reader.specs.Page.{headerOf, lentVerdict, verdict, pageBy, samplesBy, Reads}
+use Rattle.reader.specs.Modes.{decodedBy, verdictIn, topsIn, coefficientsOf, lostSample, lostMarks, roomChecksIn, lentVerdictIn, verdictOf, ReadsIn}
 use Rattle.reader.specs.Steps.{Opened}
 use Rattle.reader.proofs.Openings.{opened}
-use Rattle.reader.proofs.Leaving.{handed-length}
 use Rattle.demands.specs.Stored.{shape}
 use Rattle.demands.specs.Demands.{sampleAt}
+use Rattle.demands.specs.Damaged.{markAt}
 
 -- the record's answer is that of the verdict
 answered : (v : Verdict) (h : Header) (d : List ℕ) → pageBy v h d .answer ≡ answer v
 answered Fine h d = refl
 answered (Refused c) h d = refl
 
-module _ {s a a′ : List ℕ} {w w′ : List ℤ} {r : Page} (reads : Reads s a w r a′ w′) where
-  pub answer-of : r .answer ≡ answer (verdict s (length a) (length w))
-  answer-of = ap (λ (p : Page). p .answer) (reads .page) ∙ answered (verdict s (length a) (length w)) (headerOf s) _
+-- ---- a reading in either mode
 
-  pub verdict-fine : r .answer ≡ 0 → verdict s (length a) (length w) ≡ Fine
-  verdict-fine e = answer-fine (verdict s (length a) (length w)) (sym answer-of ∙ e)
+module _ {damaged : Bool} {s a : List ℕ} {w : List ℤ} {m : List ℕ} {r : Page} {a′ : List ℕ} {w′ : List ℤ} {m′ : List ℕ} (reads : ReadsIn damaged s a w m r a′ w′ m′) where
+  pub answer-in : r .answer ≡ answer (verdictOf damaged s (length a) (length w) (length m))
+  answer-in = ap (λ (p : Page). p .answer) (reads .page) ∙ answered (verdictOf damaged s (length a) (length w) (length m)) (headerOf s) _
+
+  pub fine-in : r .answer ≡ 0 → verdictOf damaged s (length a) (length w) (length m) ≡ Fine
+  fine-in e = answer-fine (verdictOf damaged s (length a) (length w) (length m)) (sym answer-in ∙ e)
 
 -- an accepted page has an accepted header
-pub header-fine : (s : List ℕ) (a w : ℕ) → verdict s a w ≡ Fine → readingOf s .verdict ≡ Fine
-unfolding verdict lentVerdict
-header-fine s a w e =
-    then-fine (readingOf s .verdict) (first (roomChecks (headerOf s) a w)) (then-fine (lentVerdict s a w) (decodedVerdict s (headerOf s)) e .0) .0
+pub header-in : (damaged : Bool) (s : List ℕ) (a w m : ℕ) → verdictOf damaged s a w m ≡ Fine → readingOf s .verdict ≡ Fine
+unfolding verdictOf lentVerdictIn
+header-in damaged s a w m e =
+    then-fine (readingOf s .verdict) (first (roomChecksIn damaged (headerOf s) a w m)) (then-fine (lentVerdictIn damaged s a w m) (verdictIn s (headerOf s) damaged) e .0) .0
 
--- what stands in the record and in the samples of a page that is read
-pub record PageRead (s a′ : List ℕ) (r : Page) : Type 0 where
+-- what stands in the record, in the samples and in the marks of a page that is read
+pub record PageIn (damaged : Bool) (s a′ m′ : List ℕ) (r : Page) : Type 0 where
   -- its header is accepted, and all that stands behind it
   pub opened : Opened s (headerOf s)
-  pub fine : decodedVerdict s (headerOf s) ≡ Fine
-  pub distances : r .distance ≡ distancesFrom (headerOf s) (tops s (headerOf s))
+  pub fine : verdictIn s (headerOf s) damaged ≡ Fine
+  pub distances : r .distance ≡ distancesFrom (headerOf s) (topsIn s (headerOf s) damaged)
   -- each sample is that of the decoded coefficients
-  pub sample : (i x y : ℕ) → Inside (shape s) i x y → sampleAt s a′ i x y ≡ samplesFrom (headerOf s) (coefficients s (headerOf s)) i x y
+  pub sample : (i x y : ℕ) → Inside (shape s) i x y → sampleAt s a′ i x y ≡ samplesFrom (headerOf s) (coefficientsOf s (headerOf s) damaged) i x y
+  -- and of a damaged page each mark that of the lost ones
+  pub mark : damaged ≡ true → (i x y : ℕ) → Inside (shape s) i x y → markAt s m′ i x y ≡ bit (lostSample s (headerOf s) i x y)
 
-pub page-read : {s a a′ : List ℕ} {w w′ : List ℤ} {r : Page} → Reads s a w r a′ w′ → r .answer ≡ 0 → PageRead s a′ r
-unfolding verdict handed
-page-read {s} {a} {a′} {w} {w′} {r} q zero =
-    record { opened = opened s (header-fine s (length a) (length w) all); fine = then-fine (lentVerdict s (length a) (length w)) (decodedVerdict s h) all .1; distances = ap (λ (p : Page). p .distance) page; sample = sample }
+-- a value of a component's plane, where the planes are written over the beginning of a buffer
+plane-at : (s a : List ℕ) (f : Values ℕ) (i x y : ℕ) → Inside (shape s) i x y
+    → getD (planes (shape s) f (shape s .nc) ++ drop (length (planes (shape s) f (shape s .nc))) a) (samples (shape s) i + (y * Wc (shape s) i + x)) 0 ≡ f i x y
+plane-at s a f i x y p =
+    let new = planes (shape s) f (shape s .nc) in
+    let j = samples (shape s) i + (y * Wc (shape s) i + x) in
+    let inside : j < length new =
+    omega (arith, planes-length (shape s) f (shape s .nc), offset-below (shape s) i x y (p .column) (p .row), starts-up (shape s) i (shape s .nc) (p .component)) in
+    List·getD-append new (drop (length new) a) 0 j inside ∙ planes-at (shape s) f i x y p
+
+pub page-in : {damaged : Bool} {s a a′ m m′ : List ℕ} {w w′ : List ℤ} {r : Page} → ReadsIn damaged s a w m r a′ w′ m′ → r .answer ≡ 0 → PageIn damaged s a′ m′ r
+unfolding verdictOf handed lostMarks
+page-in {damaged} {s} {a} {a′} {m} {m′} {w} {w′} {r} q zero =
+    record {
+      opened = opened s (header-in damaged s (length a) (length w) (length m) all);
+      fine = then-fine (lentVerdictIn damaged s (length a) (length w) (length m)) (verdictIn s h damaged) all .1;
+      distances = ap (λ (p : Page). p .distance) (q .page ∙ (λ i. pageBy (all i) h (distancesFrom h (topsIn s h damaged))));
+      sample = λ i x y p. ap (λ (l : List ℕ). getD l (samples (shape s) i + (y * Wc (shape s) i + x)) 0) (q .samples ∙ (λ i. samplesBy (all i) (handed h (coefficientsOf s h damaged)) a))
+          ∙ plane-at s a (samplesFrom h (coefficientsOf s h damaged)) i x y p;
+      mark = λ e i x y p. ap (λ (l : List ℕ). getD l (samples (shape s) i + (y * Wc (shape s) i + x)) 0) (q .marks ∙ (λ i. samplesBy (all i) (cond (e i) (lostMarks s h) []) m))
+          ∙ plane-at s m (λ i x y. bit (lostSample s h i x y)) i x y p;
+    }
   where
     h : Header
     h = headerOf s
 
-    distance : List ℕ
-    distance = distancesFrom h (tops s h)
+    all : verdictOf damaged s (length a) (length w) (length m) ≡ Fine
+    all = fine-in q zero
 
-    new : List ℕ
-    new = handed h (coefficients s h)
+-- ---- a plain reading is one that is lent no marks
 
-    all : verdict s (length a) (length w) ≡ Fine
-    all = verdict-fine q zero
+unmarked : (v : Verdict) → _≡_ {A = List ℕ} [] (samplesBy v [] [])
+unmarked Fine = refl
+unmarked (Refused c) = refl
 
-    page : r ≡ pageBy Fine h distance
-    page = q .page ∙ (λ i. pageBy (all i) h distance)
+pub plain-in : {s a a′ : List ℕ} {w w′ : List ℤ} {r : Page} → Reads s a w r a′ w′ → ReadsIn false s a w [] r a′ w′ []
+unfolding lentVerdictIn verdictOf decodedBy streamBy lentVerdict verdict decoded stream
+plain-in {s} {a} {w = w} x = record { page = x .page; samples = x .samples; work = x .work; marks = unmarked (verdict s (length a) (length w)) }
 
-    made : a′ ≡ new ++ drop (length new) a
-    made = q .samples ∙ (λ i. samplesBy (all i) new a)
+module _ {s a a′ : List ℕ} {w w′ : List ℤ} {r : Page} (reads : Reads s a w r a′ w′) where
+  pub answer-of : r .answer ≡ answer (verdict s (length a) (length w))
+  unfolding lentVerdictIn verdictOf decodedBy streamBy lentVerdict verdict decoded stream
+  answer-of = answer-in (plain-in reads)
 
-    sample : (i x y : ℕ) → Inside (shape s) i x y → sampleAt s a′ i x y ≡ samplesFrom h (coefficients s h) i x y
-    sample i x y p =
-        let j = samples (shape s) i + (y * Wc (shape s) i + x) in
-        let inside : j < length new =
-        omega (
-          arith,
-          handed-length h (coefficients s h),
-          offset-below (shape s) i x y (p .column) (p .row),
-          starts-up (shape s) i (shape s .nc) (p .component),
-        ) in
-        ap (λ (l : List ℕ). getD l j 0) made
-        ∙ List·getD-append new (drop (length new) a) 0 j inside
-        ∙ planes-at (shape s) (samplesFrom h (coefficients s h)) i x y p
+  pub verdict-fine : r .answer ≡ 0 → verdict s (length a) (length w) ≡ Fine
+  verdict-fine e = answer-fine (verdict s (length a) (length w)) (sym answer-of ∙ e)
+
+  pub header-fine : r .answer ≡ 0 → readingOf s .verdict ≡ Fine
+  header-fine e = header-in false s (length a) (length w) 0 (fine-in (plain-in reads) e)
+
+pub record PageRead (s a′ : List ℕ) (r : Page) : Type 0 where
+  pub opened : Opened s (headerOf s)
+  pub fine : decodedVerdict s (headerOf s) ≡ Fine
+  pub distances : r .distance ≡ distancesFrom (headerOf s) (tops s (headerOf s))
+  pub sample : (i x y : ℕ) → Inside (shape s) i x y → sampleAt s a′ i x y ≡ samplesFrom (headerOf s) (coefficients s (headerOf s)) i x y
+
+pub page-read : {s a a′ : List ℕ} {w w′ : List ℤ} {r : Page} → Reads s a w r a′ w′ → r .answer ≡ 0 → PageRead s a′ r
+unfolding decodedBy streamBy decoded stream
+page-read q zero =
+    let p = page-in (plain-in q) zero in
+    record { opened = p .opened; fine = p .fine; distances = p .distances; sample = p .sample }

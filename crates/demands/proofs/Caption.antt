@@ -18,7 +18,7 @@ use Rattle.reader.specs.Decoding.{distancesFrom, tops}
 use Rattle.reader.specs.Page.{headerOf, verdict, pageBy, Reads}
 use Rattle.reader.specs.declared.page.Page.{Page}
 use Rattle.demands.specs.Caption.{CaptionTold}
-use Rattle.demands.proofs.Accepted.{answer-of, verdict-fine, header-fine}
+use Rattle.demands.proofs.Accepted.{answer-of, header-fine}
 
 -- the header's yes, where nothing is refused
 told-by : (v : Verdict) (h : Header) (d : List ℕ) → (pageBy v h d .caption ≡ true) ↔ ((answer v ≡ 0) × (h .caption ≡ true))
@@ -47,4 +47,4 @@ caption-told {s} {a} {w = w} {r = r} reads = (
     page = ap (λ (p : Page). p .caption) (reads .page)
 
     header : r .answer ≡ 0 → (headerOf s .caption ≡ true) ↔ StandsBefore s (IsCaption s) (headerOf s .slice)
-    header zero = accepted-header s (header-fine s (length a) (length w) (verdict-fine reads zero)) .occurs .caption
+    header zero = accepted-header s (header-fine reads zero) .occurs .caption

@@ -13,11 +13,12 @@ use Rattle.reader.specs.declared.page.Page.{Page}
 use Rattle.reader.specs.Settings.{depthOf}
 use Rattle.reader.specs.Decoding.{distancesFrom, decoded, decodedVerdict, tops}
 use Rattle.reader.specs.Page.{headerOf, Reads}
+use Rattle.reader.specs.Steps.{Opened}
 use Rattle.reader.proofs.Decoded.{none-yet}
 use Rattle.demands.specs.Stored.{shape, setting, beginning}
 use Rattle.demands.specs.Uncut.{Uncut}
 use Rattle.demands.specs.Demands.{Exact}
-use Rattle.demands.proofs.Accepted.{PageRead, page-read}
+use Rattle.demands.proofs.Accepted.{page-read}
 use Rattle.demands.proofs.Three.{demand-three}
 
 -- the largest T of each band is 0 then
@@ -28,22 +29,25 @@ tops-none s fine uncut b =
     tops-most s (setting s) b 0 (beginning s) fine (λ t l n k below held. omega (arith, uncut t l n k b below held)) (omega (arith, none-yet b)) in
     omega (arith, most)
 
-distances-none : {s a′ : List ℕ} {r : Page} → PageRead s a′ r → Uncut s → (i : ℕ) → getD (r .distance) i 0 ≡ 0
+-- and so is every distance
+pub distances-none : {s : List ℕ} → Opened s (headerOf s) → (tops : List ℕ) → ((b : ℕ) → getD tops b 0 ≡ 0) → (i : ℕ) → getD (distancesFrom (headerOf s) tops) i 0 ≡ 0
 unfolding distancesFrom
-distances-none {s} page uncut i =
+distances-none {s} o tops none i =
     let h = headerOf s in
-    ap (λ (l : List ℕ). getD l i 0) (page .distances)
-    ∙ distances-exact (shape s) (h .picture .fq) (tops s h) (page .opened .shape) (tops-none s (page .fine) uncut) (h .picture .cpih) (h .picture .bw) (depthOf h) i
+    distances-exact (shape s) (h .picture .fq) tops (o .shape) none (h .picture .cpih) (h .picture .bw) (depthOf h) i
 
 -- ---- the page is exact
 
 -- so where no plane was cut off, the page is that of the coefficients before quantisation
 pub exact : {s a a′ : List ℕ} {w w′ : List ℤ} {r : Page} → Reads s a w r a′ w′ → r .answer ≡ 0 → Uncut s → Exact s a′ r
-exact {s} {a′ = a′} {r = r} read accepted uncut =
+exact {s} {r = r} read accepted uncut =
     record {
       distance = none;
       sample = λ C q i x y p. let near = demand-three read accepted .near C q i x y p in omega (arith, none i, near .over, near .under);
     }
   where
     none : (i : ℕ) → getD (r .distance) i 0 ≡ 0
-    none = distances-none (page-read read accepted) uncut
+    none i =
+        let page = page-read read accepted in
+        ap (λ (l : List ℕ). getD l i 0) (page .distances)
+        ∙ distances-none (page .opened) (tops s (headerOf s)) (tops-none s (page .fine) uncut) i

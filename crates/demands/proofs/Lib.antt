@@ -6,6 +6,10 @@ pub mod One
 pub mod Two
 pub mod Colours
 pub mod Three
+pub mod Lost
 pub mod Exact
+pub mod Damaged
+pub mod Whole
+pub mod Apart
 pub mod Walked
 pub mod Caption

@@ -9,14 +9,17 @@ use lib.ListN.{getD}
 use Rattle.whole.specs.Numbers.{Within, Near}
 use Rattle.whole.proofs.Within.{within-swap}
 use Rattle.rows.specs.declared.Verdict.the-variants.{Fine}
+use Rattle.quantiser.specs.Inverse.{scaled}
 use Rattle.quantiser.specs.Forward.{indexOf}
 use Rattle.quantiser.specs.Distance.{bandNumber}
 use Rattle.quantiser.proofs.Laws.{band-within}
 use Rattle.wavelet.specs.Transform.{Kind}
 use Rattle.wavelet.specs.Bands.{Coefficient}
 use Rattle.layout.specs.Bands.{Wc, Hc, N′x, N′y, band}
+use Rattle.slices.specs.Slice.{State}
+use Rattle.slices.proofs.Coefficients.{ReadsOne}
 use Rattle.planes.specs.Values.{Coefficients}
-use Rattle.planes.specs.Places.{Inside}
+use Rattle.planes.specs.Places.{coefficientsIn, Inside}
 use Rattle.planes.proofs.Laws.{samples-of-near-places, samples-of-near}
 use Rattle.distances.specs.Rule.{numberOf, componentNumber, distanceOf}
 use Rattle.distances.proofs.Rules.{distance-at}
@@ -26,57 +29,78 @@ use Rattle.reader.specs.Decoding.{samplesFrom, distancesFrom, decodedVerdict, t
 use Rattle.reader.specs.Page.{headerOf, Reads}
 use Rattle.reader.specs.Steps.{Opened}
 use Rattle.reader.proofs.Openings.{colours}
-use Rattle.demands.specs.Stored.{shape, setting, β, truncationOf, planesOf, Quantised, scaledUp}
+use Rattle.demands.specs.Stored.{sliceWith, shape, setting, β, Each, scaledUp, truncationFrom, planesFrom, QuantisedAt, truncationOf, Quantised}
 use Rattle.demands.specs.Places.{ownNumber, filteredPlace, colouredPlace, placeDistance}
 use Rattle.demands.specs.Demands.{Three}
 use Rattle.demands.proofs.Accepted.{page-read}
-use Rattle.demands.proofs.Stored.{coefficient-is, largest-known, own-quantised}
+use Rattle.demands.proofs.Stored.{Leads, coefficient-is, largest-known, own-quantised, plain-leads, plain-reads}
 use Rattle.demands.proofs.Colours.{behind}
 
-module _ {s : List ℕ} (o : Opened s (headerOf s)) (fine : decodedVerdict s (headerOf s) ≡ Fine) {C : Coefficients} (q : Quantised s C) where
-  -- each coefficient is within the number of its own T of the one that is decoded, and so within that of any T which is no less
-  coefficient-near : {i : ℕ} (h : i < shape s .nc) {k : Kind} {dx dy x y : ℕ}
-      → Coefficient (Wc (shape s) i) (Hc (shape s) i) (N′x (shape s) i) (N′y (shape s) i) k dx dy x y → (U : ℕ) → truncationOf s i k dx dy x y ≤ U
-      → Within (bandNumber U (setting s .fq)) (coefficients s (headerOf s) i k dx dy x y) (scaledUp s C i k dx dy x y)
-  coefficient-near {i} h {k} {dx} {dy} {x} {y} d U most =
-      let M = planesOf s i k dx dy x y in
-      let T = truncationOf s i k dx dy x y in
-      let c = C i k dx dy x y in
-      let u = setting s .uniform in
-      rw (coefficient-is o fine h d, ← q .gives i h k dx dy x y d)
-      (within-swap (band-within u M T U (setting s .fq) c (indexOf u M T c) most (q .small i h k dx dy x y d) refl))
+-- ---- a coefficient of a slice that is read
 
-  -- place by place: a sample is within the distance that the coefficients' own T give its place
-  samples-near-places : (i x y : ℕ) → Inside (shape s) i x y
-      → Near (placeDistance s i x y) (samplesFrom (headerOf s) (coefficients s (headerOf s)) i x y) (samplesFrom (headerOf s) (scaledUp s C) i x y)
+module _ {s : List ℕ} (o : Opened s (headerOf s)) {z : ℕ → State} {tops : List ℕ} {cells : List ℤ} (w : Leads s z tops cells) {i : ℕ} (h : i < shape s .nc)
+    {k : Kind} {dx dy x y : ℕ} (d : Coefficient (Wc (shape s) i) (Hc (shape s) i) (N′x (shape s) i) (N′y (shape s) i) k dx dy x y)
+    (reads : ReadsOne s (setting s) z (sliceWith (shape s) (β s i k dx dy x y) i x y)) {c : ℤ} (q : QuantisedAt s z i k dx dy x y c) where
+  -- it is within the number of its own T of the one that is decoded, and so within that of any T which is no less
+  pub coefficient-near : (U : ℕ) → truncationFrom s z i k dx dy x y ≤ U
+      → Within (bandNumber U (setting s .fq)) (coefficientsIn (shape s) cells i k dx dy x y) (scaled (setting s .fq) c)
+  coefficient-near U most =
+      let M = planesFrom s z i k dx dy x y in
+      let T = truncationFrom s z i k dx dy x y in
+      let u = setting s .uniform in
+      rw (coefficient-is o w h d reads, ← q .gives) (within-swap (band-within u M T U (setting s .fq) c (indexOf u M T c) most (q .small) refl))
+
+  -- such is its band's largest
+  pub coefficient-near-largest : Within (numberOf (shape s) (setting s .fq) tops i k dx dy) (coefficientsIn (shape s) cells i k dx dy x y) (scaled (setting s .fq) c)
+  coefficient-near-largest = coefficient-near (getD tops (band (shape s) (β s i k dx dy x y) i) 0) (largest-known o w h d reads)
+
+-- ---- the samples of two tables of coefficients
+
+module _ {s : List ℕ} (o : Opened s (headerOf s)) (D C : Coefficients) where
+  -- place by place: with the number of its own T for each coefficient a sample is within the distance of its place
+  samples-near-places : Each s (λ i k dx dy x y. Within (ownNumber s i k dx dy x y) (D i k dx dy x y) (C i k dx dy x y))
+      → (i x y : ℕ) → Inside (shape s) i x y → Near (placeDistance s i x y) (samplesFrom (headerOf s) D i x y) (samplesFrom (headerOf s) C i x y)
   unfolding samplesFrom
-  samples-near-places i x y p =
+  samples-near-places =
       let h = headerOf s in
       samples-of-near-places (o .shape) (colours (o .accepted .ranges)) (h .picture .bw) (depthOf h) (ownNumber s) (colouredPlace s)
-      (λ x y. behind (h .picture .cpih) (λ i. filteredPlace s i x y)) (coefficients s h) (scaledUp s C)
-      (λ i l k dx dy x y d. coefficient-near l d (truncationOf s i k dx dy x y) (omega arith)) i x y p
+      (λ x y. behind (h .picture .cpih) (λ i. filteredPlace s i x y)) D C
 
-  -- with one number for each band: it is within its component's distance
-  samples-near : (i x y : ℕ) → Inside (shape s) i x y
-      → Near (getD (distancesFrom (headerOf s) (tops s (headerOf s))) i 0) (samplesFrom (headerOf s) (coefficients s (headerOf s)) i x y)
-      (samplesFrom (headerOf s) (scaledUp s C) i x y)
+  -- with one number for each band, of its largest T: it is within its component's distance
+  pub samples-near : (tops : List ℕ) → Each s (λ i k dx dy x y. Within (numberOf (shape s) (setting s .fq) tops i k dx dy) (D i k dx dy x y) (C i k dx dy x y))
+      → (i x y : ℕ) → Inside (shape s) i x y → Near (getD (distancesFrom (headerOf s) tops) i 0) (samplesFrom (headerOf s) D i x y) (samplesFrom (headerOf s) C i x y)
   unfolding samplesFrom distancesFrom distanceOf componentNumber
-  samples-near i x y p =
+  samples-near tops near i x y p =
       let h = headerOf s in
-      let number = numberOf (shape s) (setting s .fq) (tops s h) in
-      rw (distance-at (shape s) (h .picture .fq) (h .picture .cpih) (h .picture .bw) (depthOf h) (tops s h) (o .shape .few) i (p .component))
-      (samples-of-near (o .shape) (colours (o .accepted .ranges)) (h .picture .bw) (depthOf h) number
-      (behind (h .picture .cpih) (componentNumber (shape s) (h .picture .fq) (tops s h))) (coefficients s h) (scaledUp s C)
-      (λ i l k dx dy x y d. coefficient-near l d (getD (tops s h) (band (shape s) (β s i k dx dy x y) i) 0) (largest-known o fine l d)) i x y p)
+      rw (distance-at (shape s) (h .picture .fq) (h .picture .cpih) (h .picture .bw) (depthOf h) tops (o .shape .few) i (p .component))
+      (samples-of-near (o .shape) (colours (o .accepted .ranges)) (h .picture .bw) (depthOf h) (numberOf (shape s) (setting s .fq) tops)
+      (behind (h .picture .cpih) (componentNumber (shape s) (h .picture .fq) tops)) D C near i x y p)
 
 -- ---- demand 3
+
+module _ {s : List ℕ} (o : Opened s (headerOf s)) (fine : decodedVerdict s (headerOf s) ≡ Fine) {C : Coefficients} (q : Quantised s C) where
+  page-near-places : (i x y : ℕ) → Inside (shape s) i x y
+      → Near (placeDistance s i x y) (samplesFrom (headerOf s) (coefficients s (headerOf s)) i x y) (samplesFrom (headerOf s) (scaledUp s C) i x y)
+  page-near-places =
+      samples-near-places o (coefficients s (headerOf s)) (scaledUp s C)
+      (λ i l k dx dy x y d.
+      coefficient-near o (plain-leads o fine) l d (plain-reads o fine l d) (q i l k dx dy x y d) (truncationOf s i k dx dy x y) (omega arith))
+
+  page-near : (i x y : ℕ) → Inside (shape s) i x y
+      → Near (getD (distancesFrom (headerOf s) (tops s (headerOf s))) i 0) (samplesFrom (headerOf s) (coefficients s (headerOf s)) i x y)
+      (samplesFrom (headerOf s) (scaledUp s C) i x y)
+  page-near =
+      samples-near o (coefficients s (headerOf s)) (scaledUp s C) (tops s (headerOf s))
+      (λ i l k dx dy x y d. coefficient-near-largest o (plain-leads o fine) l d (plain-reads o fine l d) (q i l k dx dy x y d))
 
 -- so the record tells how far each sample can be off, whatever the quantiser dropped
 pub demand-three : {s a a′ : List ℕ} {w w′ : List ℤ} {r : Page} → Reads s a w r a′ w′ → r .answer ≡ 0 → Three s a′ r
 demand-three {s} read accepted =
     let page = page-read read accepted in
+    let o = page .opened in
+    let fine = page .fine in
     record {
-      near = λ C q i x y p. rw (page .distances, page .sample i x y p) (samples-near (page .opened) (page .fine) q i x y p);
-      near-place = λ C q i x y p. rw (page .sample i x y p) (samples-near-places (page .opened) (page .fine) q i x y p);
-      some = own-quantised s (page .opened) (page .fine);
+      near = λ C q i x y p. rw (page .distances, page .sample i x y p) (page-near o fine q i x y p);
+      near-place = λ C q i x y p. rw (page .sample i x y p) (page-near-places o fine q i x y p);
+      some = λ i l k dx dy x y d. own-quantised o (plain-leads o fine) l d (plain-reads o fine l d);
     }

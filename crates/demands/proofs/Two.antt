@@ -27,7 +27,7 @@ use Rattle.demands.specs.Stored.{shape, setting, beginning, dequantised,
 use Rattle.demands.specs.Table.{tableOf}
 use Rattle.demands.specs.Demands.{Decided, Two}
 use Rattle.demands.proofs.Accepted.{answer-of, verdict-fine, page-read}
-use Rattle.demands.proofs.Stored.{coefficient-is}
+use Rattle.demands.proofs.Stored.{coefficient-is, plain-leads, plain-reads}
 
 -- ---- the verdict is that of the table
 
@@ -35,19 +35,21 @@ then-again : (u v w : Verdict) → then (then u v) w ≡ then u (then v w)
 then-again Fine v w = refl
 then-again (Refused c) v w = refl
 
-pub table-verdict : (s : List ℕ) (a w : ℕ) → verdict s a w ≡ first (tableOf s a w)
-unfolding verdict lentVerdict decoded tableOf
-table-verdict s a w =
-    let room = roomChecks (headerOf s) a w in
-    let behind = streamChecks s (setting s) (beginning s) in
-    then-again (readingOf s .verdict) (first room) (decodedVerdict s (headerOf s))
-    ∙ (λ i. then (one-table s i) (then (first room) (stream-table s (setting s) (beginning s) i)))
+-- of the header, of row 5 and of what stands behind it
+pub joined-tables : (s : List ℕ) (room behind : List Check) {v : Verdict} → v ≡ first behind → then (then (readingOf s .verdict) (first room)) v ≡ first (headerChecks s ++ (room ++ behind))
+joined-tables s room behind {v} e =
+    then-again (readingOf s .verdict) (first room) v
+    ∙ (λ i. then (one-table s i) (then (first room) (e i)))
     ∙ (λ i. then (first (headerChecks s)) (sym (first-append room behind) i))
     ∙ sym (first-append (headerChecks s) (room ++ behind))
 
+pub table-verdict : (s : List ℕ) (a w : ℕ) → verdict s a w ≡ first (tableOf s a w)
+unfolding verdict lentVerdict decoded tableOf
+table-verdict s a w = joined-tables s (roomChecks (headerOf s) a w) (streamChecks s (setting s) (beginning s)) (stream-table s (setting s) (beginning s))
+
 -- ---- and so is the answer
 
-decided : (t : List Check) (v : Verdict) (h : Header) (d : List ℕ) → v ≡ first t → (answer v ≡ 0 → ⊥) → Decided t (pageBy v h d)
+pub decided : (t : List Check) (v : Verdict) (h : Header) (d : List ℕ) → v ≡ first t → (answer v ≡ 0 → ⊥) → Decided t (pageBy v h d)
 decided t Fine h d e no0 = absurd (no0 refl)
 decided t (Refused c) h d e no0 = record { check = c; first-broken = first-breaks t c .0 (sym e); answer = refl; place = refl }
 
@@ -58,7 +60,7 @@ unfolding samplesFrom
 samples-by-name {s} o fine =
     let h = headerOf s in
     samples-of-same (o .shape) (colours (o .accepted .ranges)) (h .picture .bw) (depthOf h) (coefficients s h) (scaledUp s (dequantised s))
-    (λ i l k dx dy x y d. coefficient-is o fine l d)
+    (λ i l k dx dy x y d. coefficient-is o (plain-leads o fine) l d (plain-reads o fine l d))
 
 -- so document 01's table alone decides whether a page is read, and the stream alone what its samples are
 pub demand-two : {s a a′ : List ℕ} {w w′ : List ℤ} {r : Page} → Reads s a w r a′ w′ → Two s a w r a′

@@ -14,13 +14,14 @@ use Rattle.quantiser.specs.Inverse.{coefficientOf, scaled, Carried}
 use Rattle.wavelet.specs.Transform.{Kind}
 use Rattle.layout.specs.Bands.{Wc}
 use Rattle.layout.specs.Cells.{samples}
+use Rattle.slices.specs.Slice.{State}
 use Rattle.planes.specs.Values.{Coefficients}
 use Rattle.planes.specs.Places.{Inside}
 use Rattle.reader.specs.declared.page.Page.{Page}
 use Rattle.reader.specs.Settings.{N}
 use Rattle.reader.specs.Decoding.{samplesFrom, coefficients}
 use Rattle.reader.specs.Page.{headerOf, lentVerdict, workBy}
-use Rattle.demands.specs.Stored.{slotWith, candidateWith, shape, setting, β, truncationOf, planesOf, storedAt, OnLine, dequantised, scaledUp, Quantised}
+use Rattle.demands.specs.Stored.{slotWith, candidateWith, shape, setting, β, scaledUp, truncationFrom, planesFrom, storedFrom, OnLineFrom, dequantisedFrom, plainStates, dequantised, Quantised}
 use Rattle.demands.specs.Table.{tableOf}
 use Rattle.demands.specs.Places.{placeDistance}
 
@@ -61,19 +62,24 @@ pub record Two (s a : List ℕ) (w : List ℤ) (r : Page) (a′ : List ℕ) : Ty
 
 -- ---- the coefficients of an accepted page, by name: of component i, in a band with the letters k and the depths dx and dy, in its column x and row y
 
-pub record ByName (s : List ℕ) (i : ℕ) (k : Kind) (dx dy x y : ℕ) : Type 0 where
+-- where D is what a reading decodes, which takes the slices from the states z
+pub record ByNameFrom (s : List ℕ) (z : ℕ → State) (D : Coefficients) (i : ℕ) (k : Kind) (dx dy x y : ℕ) : Type 0 where
   -- E.3, Table E.2: what the reader decodes is c′[p,λ,b,ξ] × 2^Fq, of its own index, its own group's M and its own precinct and band's T
-  pub is : coefficients s (headerOf s) i k dx dy x y ≡ scaledUp s (dequantised s) i k dx dy x y
+  pub is : D i k dx dy x y ≡ scaledUp s (dequantisedFrom s z) i k dx dy x y
   -- M is at most 31, and M − T planes carry the index
-  pub carried : Carried (planesOf s i k dx dy x y) (truncationOf s i k dx dy x y) (natAbs (storedAt s i k dx dy x y))
+  pub carried : Carried (planesFrom s z i k dx dy x y) (truncationFrom s z i k dx dy x y) (natAbs (storedFrom s z i k dx dy x y))
   -- no other index that they carry gives the coefficient
-  pub one : (index : ℤ) → Carried (planesOf s i k dx dy x y) (truncationOf s i k dx dy x y) (natAbs index)
-      → coefficients s (headerOf s) i k dx dy x y ≡ scaled (setting s .fq) (coefficientOf (setting s .uniform) (planesOf s i k dx dy x y) (truncationOf s i k dx dy x y) index)
-      → index ≡ storedAt s i k dx dy x y
+  pub one : (index : ℤ) → Carried (planesFrom s z i k dx dy x y) (truncationFrom s z i k dx dy x y) (natAbs index)
+      → D i k dx dy x y ≡ scaled (setting s .fq) (coefficientOf (setting s .uniform) (planesFrom s z i k dx dy x y) (truncationFrom s z i k dx dy x y) index)
+      → index ≡ storedFrom s z i k dx dy x y
   -- the line that Table E.2 names is its row of its band, in its precinct, and no other line is
-  pub line : OnLine s i k dx dy x y (slotWith (shape s) (β s i k dx dy x y) i x y) (candidateWith (shape s) (β s i k dx dy x y) i x y)
-  pub only : (slot j : ℕ) → OnLine s i k dx dy x y slot j
+  pub line : OnLineFrom s z i k dx dy x y (slotWith (shape s) (β s i k dx dy x y) i x y) (candidateWith (shape s) (β s i k dx dy x y) i x y)
+  pub only : (slot j : ℕ) → OnLineFrom s z i k dx dy x y slot j
       → (slot ≡ slotWith (shape s) (β s i k dx dy x y) i x y) × (j ≡ candidateWith (shape s) (β s i k dx dy x y) i x y)
+
+-- as `read` takes them
+abbrev pub ByName : List ℕ → ℕ → Kind → ℕ → ℕ → ℕ → ℕ → Type 0
+ByName s = ByNameFrom s (plainStates s) (coefficients s (headerOf s))
 
 -- ---- demand 3, of an accepted page: 'for any whole-number coefficients, each of size below 2^max(M, T), that the standard's forward quantiser turns into the
 -- indices stored, every sample read lies within the distance of the sample those coefficients give'

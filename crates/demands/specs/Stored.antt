@@ -12,8 +12,8 @@ use Rattle.quantiser.specs.Forward.{indexOf}
 use Rattle.wavelet.specs.Transform.{Kind}
 use Rattle.wavelet.specs.Bands.{Coefficient}
 use Rattle.layout.specs.declared.Shape.{Shape}
-use Rattle.layout.specs.Bands.{sx, sy, Wc, Hc, N′x, N′y, depth, dx as across, band}
-use Rattle.layout.specs.Precincts.{Cs, Npx, slice-top}
+use Rattle.layout.specs.Bands.{sx, Wc, Hc, N′x, N′y, dx as across, band}
+use Rattle.layout.specs.Precincts.{Cs, Npx, row-with, slice-with, slice-top}
 use Rattle.layout.specs.Slots.{slots, candidates, line-with, slot-with, candidate-with}
 use Rattle.bits.specs.Groups.{Ng}
 use Rattle.shapes.specs.Shapes.{shapeOf}
@@ -22,7 +22,7 @@ use Rattle.packets.specs.declared.Precinct.{Precinct}
 use Rattle.packets.specs.Precincts.{T}
 use Rattle.packets.specs.Passes.{line}
 use Rattle.slices.specs.Slice.{State}
-use Rattle.slices.specs.Reached.{streamHas, streamPlanes, streamIndex}
+use Rattle.slices.specs.Reached.{sliceHas, slicePlanes, sliceIndex, beforeSlice}
 use Rattle.planes.specs.Values.{Coefficients}
 use Rattle.distances.specs.Rule.{type-of}
 use Rattle.reader.specs.Settings.{settingOf, N}
@@ -33,14 +33,14 @@ use Rattle.reader.specs.Page.{headerOf}
 module _ (s : Shape) (β i x y : ℕ) where
   -- its precinct p, by its row and column (B.5)
   abbrev pub rowWith : ℕ
-  rowWith = y * sy s i * 2 ^ depth s β i / 2 ^ s .nly
+  rowWith = row-with s β i y
 
   abbrev pub columnWith : ℕ
   columnWith = x * sx s i * 2 ^ across s β / Cs s
 
   -- which is this one of this slice (B.11)
   abbrev pub sliceWith : ℕ
-  sliceWith = rowWith / s .hsl
+  sliceWith = slice-with s β i y
 
   abbrev pub numberWith : ℕ
   numberWith = (rowWith - slice-top s sliceWith) * Npx s + columnWith
@@ -70,52 +70,94 @@ module _ (s : List ℕ) where
   abbrev pub beginning : State
   beginning = (headerOf s .slice, replicate 40 0, replicate (2 * N (headerOf s)) (pos 0))
 
-  module _ (i : ℕ) (k : Kind) (dx dy x y : ℕ) where
-    -- B.3: its filter type
-    abbrev pub β : ℕ
-    β = type-of shape k dx
+  -- B.3: its filter type
+  abbrev pub β : ℕ → Kind → ℕ → ℕ → ℕ → ℕ → ℕ
+  β i k dx dy x y = type-of shape k dx
 
-    -- its precinct
-    abbrev pub precinctWith : Precinct
-    precinctWith = streamHas s setting beginning (sliceWith shape β i x y) (numberWith shape β i x y)
-
-    -- T[p,b], of its precinct and band
-    unfoldable pub truncationOf : ℕ
-    truncationOf = T setting precinctWith (band shape β i)
-
-    -- M[p,λ,b,g], of its code group, which is the ⌊ξ / Ng⌋-th of the line (B.8)
-    unfoldable pub planesOf : ℕ
-    planesOf =
-        streamPlanes s setting beginning (sliceWith shape β i x y) (numberWith shape β i x y) (slotWith shape β i x y) (candidateWith shape β i x y)
-        (placeWith shape β i x y / Ng)
-
-    -- the index of (p, λ, b, ξ), with its sign
-    unfoldable pub storedAt : ℤ
-    storedAt =
-        streamIndex s setting beginning (sliceWith shape β i x y) (numberWith shape β i x y) (slotWith shape β i x y) (candidateWith shape β i x y)
-        (placeWith shape β i x y)
-
-    -- a line of its precinct that is row y of its band
-    pub record OnLine (slot j : ℕ) : Type 0 where
-      pub which : slot < slots shape
-      pub candidate : j < candidates shape slot
-      pub present : line setting precinctWith slot j .present ≡ true
-      pub band : line setting precinctWith slot j .band ≡ band shape β i
-      pub row : line setting precinctWith slot j .y ≡ y
-
-  -- Annex D: c′[p,λ,b,ξ], what the inverse quantiser that Qpih selects makes of each index
-  abbrev pub dequantised : Coefficients
-  dequantised i k dx dy x y = coefficientOf (setting .uniform) (planesOf i k dx dy x y) (truncationOf i k dx dy x y) (storedAt i k dx dy x y)
+  -- a property of each coefficient that the components have
+  abbrev pub Each : (ℕ → Kind → ℕ → ℕ → ℕ → ℕ → Type 0) → Type 0
+  Each P =
+      (i : ℕ) → i < shape .nc → (k : Kind) (dx dy x y : ℕ) → Coefficient (Wc shape i) (Hc shape i) (N′x shape i) (N′y shape i) k dx dy x y
+      → P i k dx dy x y
 
   -- E.3: ×2^Fq, the first of the inverse transforms
   abbrev pub scaledUp : Coefficients → Coefficients
   scaledUp C i k dx dy x y = scaled (setting .fq) (C i k dx dy x y)
 
-  -- ---- demand 3's coefficients: 'any whole-number coefficients, each of size below 2^max(M, T), that the standard's forward quantiser turns into the
-  -- indices stored'
+  -- where z are the states from which the slices are read, one for each slice in their order
+  module _ (z : ℕ → State) where
+    module _ (i : ℕ) (k : Kind) (dx dy x y : ℕ) where
+      abbrev type : ℕ
+      type = β i k dx dy x y
 
-  pub record Quantised (C : Coefficients) : Type 0 where
-    pub small : (i : ℕ) → i < shape .nc → (k : Kind) (dx dy x y : ℕ) → Coefficient (Wc shape i) (Hc shape i) (N′x shape i) (N′y shape i) k dx dy x y
-        → natAbs (C i k dx dy x y) < 2 ^ max (planesOf i k dx dy x y) (truncationOf i k dx dy x y)
-    pub gives : (i : ℕ) → i < shape .nc → (k : Kind) (dx dy x y : ℕ) → Coefficient (Wc shape i) (Hc shape i) (N′x shape i) (N′y shape i) k dx dy x y
-        → indexOf (setting .uniform) (planesOf i k dx dy x y) (truncationOf i k dx dy x y) (C i k dx dy x y) ≡ storedAt i k dx dy x y
+      abbrev state : State
+      state = z (sliceWith shape type i x y)
+
+      -- its precinct
+      abbrev pub precinctFrom : Precinct
+      precinctFrom = sliceHas s setting state (sliceWith shape type i x y) (numberWith shape type i x y)
+
+      -- T[p,b], of its precinct and band
+      unfoldable pub truncationFrom : ℕ
+      truncationFrom = T setting precinctFrom (band shape type i)
+
+      -- M[p,λ,b,g], of its code group, which is the ⌊ξ / Ng⌋-th of the line (B.8)
+      unfoldable pub planesFrom : ℕ
+      planesFrom =
+          slicePlanes s setting state (sliceWith shape type i x y) (numberWith shape type i x y) (slotWith shape type i x y) (candidateWith shape type i x y)
+          (placeWith shape type i x y / Ng)
+
+      -- the index of (p, λ, b, ξ), with its sign
+      unfoldable pub storedFrom : ℤ
+      storedFrom =
+          sliceIndex s setting state (sliceWith shape type i x y) (numberWith shape type i x y) (slotWith shape type i x y) (candidateWith shape type i x y)
+          (placeWith shape type i x y)
+
+      -- a line of its precinct that is row y of its band
+      pub record OnLineFrom (slot j : ℕ) : Type 0 where
+        pub which : slot < slots shape
+        pub candidate : j < candidates shape slot
+        pub present : line setting precinctFrom slot j .present ≡ true
+        pub band : line setting precinctFrom slot j .band ≡ band shape type i
+        pub row : line setting precinctFrom slot j .y ≡ y
+
+      -- the whole number c, 'of size below 2^max(M, T)', is one 'that the standard's forward quantiser turns into' the index stored
+      pub record QuantisedAt (c : ℤ) : Type 0 where
+        pub small : natAbs c < 2 ^ max planesFrom truncationFrom
+        pub gives : indexOf (setting .uniform) planesFrom truncationFrom c ≡ storedFrom
+
+    -- Annex D: c′[p,λ,b,ξ], what the inverse quantiser that Qpih selects makes of each index
+    abbrev pub dequantisedFrom : Coefficients
+    dequantisedFrom i k dx dy x y =
+        coefficientOf (setting .uniform) (planesFrom i k dx dy x y) (truncationFrom i k dx dy x y) (storedFrom i k dx dy x y)
+
+    -- such numbers wherever a coefficient counts
+    abbrev pub QuantisedWhere : (ℕ → Kind → ℕ → ℕ → ℕ → ℕ → Type 0) → Coefficients → Type 0
+    QuantisedWhere Counts C = Each (λ i k dx dy x y. Counts i k dx dy x y → QuantisedAt i k dx dy x y (C i k dx dy x y))
+
+  -- ---- what `read` takes: every slice from where the one before it ends
+
+  abbrev pub plainStates : ℕ → State
+  plainStates = beforeSlice s setting beginning
+
+  module _ (i : ℕ) (k : Kind) (dx dy x y : ℕ) where
+    -- T[p,b]
+    abbrev pub truncationOf : ℕ
+    truncationOf = truncationFrom plainStates i k dx dy x y
+
+    -- M[p,λ,b,g]
+    abbrev pub planesOf : ℕ
+    planesOf = planesFrom plainStates i k dx dy x y
+
+    -- the index
+    abbrev pub storedAt : ℤ
+    storedAt = storedFrom plainStates i k dx dy x y
+
+  -- c′[p,λ,b,ξ]
+  abbrev pub dequantised : Coefficients
+  dequantised = dequantisedFrom plainStates
+
+  -- demand 3's coefficients: 'any whole-number coefficients, each of size below 2^max(M, T), that the standard's forward quantiser turns into the indices
+  -- stored'
+  abbrev pub Quantised : Coefficients → Type 0
+  Quantised C = Each (λ i k dx dy x y. QuantisedAt plainStates i k dx dy x y (C i k dx dy x y))

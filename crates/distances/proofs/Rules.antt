@@ -2,10 +2,10 @@
 use mathlib.Core.Path.{_≡_, refl, ap, _∙_}
 use mathlib.Core.Bool.{cond}
 use mathlib.Core.List.{List}
-use Prim.Native.Nat.{ℕ, zero, suc, _*_, _-_, _^_, _≤_, _<_}
-use native.Mathlib.Decide.{decLt, ℕ-discrete}
+use Prim.Native.Nat.{ℕ, _*_, _-_, _^_, _≤_, _<_}
+use native.Mathlib.Decide.{decLt}
 use native.Mathlib.Omega.{arith}
-use borrow.Author.Tests.{lt-ltb, le-ltb, eq-eqb, ne-eqb}
+use borrow.Author.Tests.{lt-ltb, le-ltb}
 use lib.Dec.{ltb}
 use lib.ListN.{getD}
 use lib.Pow.{pow-mono}
@@ -14,13 +14,13 @@ use Rattle.whole.proofs.Lists.{listed-at, listed-past, listed-same}
 use Rattle.quantiser.specs.Distance.{bandNumber}
 use Rattle.quantiser.proofs.Laws.{band-zero}
 use Rattle.wavelet.proofs.Components.{component-exact}
-use Rattle.colour.specs.Rct.{numbersRct}
+use Rattle.colour.proofs.Table.{number-same, number-most}
 use Rattle.output.specs.Linear.{distance}
 use Rattle.output.proofs.Laws.{distance-exact}
 use Rattle.layout.specs.declared.Shape.{Shape}
 use Rattle.layout.specs.Bands.{N′x, N′y, band}
 use Rattle.layout.specs.Built.{Built}
-use Rattle.distances.specs.Rule.{type-of, numberOf, componentNumber, partOf, colouredNumber, distanceOf, ofFour, distancesOf, Stated}
+use Rattle.distances.specs.Rule.{type-of, numberOf, componentNumber, colouredNumber, distanceOf, ofFour, distancesOf, Stated}
 use Rattle.distances.specs.Steps.{Numbered, EachBelow}
 use Rattle.distances.proofs.Bounds.{component-small}
 
@@ -29,30 +29,11 @@ use Rattle.distances.proofs.Bounds.{component-small}
 -- it reads the numbers of the components that there are
 pub coloured-same : (Cpih nc : ℕ) → (Cpih ≡ 1 → 3 ≤ nc) → (e e′ : ℕ → ℕ) → ((j : ℕ) → j < nc → e j ≡ e′ j)
     → (i : ℕ) → i < nc → colouredNumber Cpih e i ≡ colouredNumber Cpih e′ i
-unfolding colouredNumber
-coloured-same Cpih nc three e e′ same i h = by (ℕ-discrete Cpih 1)
-  where
-    by : Dec (Cpih ≡ 1) → colouredNumber Cpih e i ≡ colouredNumber Cpih e′ i
-    by (yes p) =
-        let m = three p in
-        rw (eq-eqb Cpih 1 p)
-        (λ j. partOf (numbersRct (record { c0 = same 0 (omega arith) j; c1 = same 1 (omega arith) j; c2 = same 2 (omega arith) j })) (same i h j) i)
-    by (no n) = rw (ne-eqb Cpih 1 n) (same i h)
+coloured-same Cpih nc three e e′ same i h = number-same Cpih e e′ (λ p j b. same j (omega (arith, three p))) i (same i h)
 
 -- numbers of at most B become numbers of at most 3 B
 pub coloured-most : (Cpih B : ℕ) (e : ℕ → ℕ) → ((j : ℕ) → e j ≤ B) → (i : ℕ) → colouredNumber Cpih e i ≤ 3 * B
-unfolding colouredNumber numbersRct
-coloured-most Cpih B e most i = by (ℕ-discrete Cpih 1)
-  where
-    part : (i : ℕ) → partOf (numbersRct (record { c0 = e 0; c1 = e 1; c2 = e 2 })) (e i) i ≤ 3 * B
-    part zero = omega (arith, most 0, most 1, most 2)
-    part (suc zero) = omega (arith, most 0, most 1, most 2)
-    part (suc (suc zero)) = omega (arith, most 0, most 1, most 2)
-    part (suc (suc (suc i))) = omega (arith, most (suc (suc (suc i))))
-
-    by : Dec (Cpih ≡ 1) → colouredNumber Cpih e i ≤ 3 * B
-    by (yes p) = rw (eq-eqb Cpih 1 p) (part i)
-    by (no n) = rw (ne-eqb Cpih 1 n) (omega (arith, most i))
+coloured-most Cpih B e most i = number-most Cpih B e (λ _ j _. most j) i (most i)
 
 -- ---- numbers of four components
 

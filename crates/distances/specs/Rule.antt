@@ -3,20 +3,20 @@
 use mathlib.Core.Path.{_≡_}
 use mathlib.Core.Bool.{cond}
 use mathlib.Core.List.{List}
-use Prim.Native.Nat.{ℕ, zero, suc, min, _≤_, _<_}
-use lib.Dec.{eqb, ltb}
+use Prim.Native.Nat.{ℕ, min, _≤_, _<_}
+use lib.Dec.{ltb}
 use lib.ListN.{getD}
 use Rattle.whole.specs.Cells.{listed}
 use Rattle.quantiser.specs.Distance.{bandNumber}
 use Rattle.wavelet.specs.Transform.{Kind}
 use Rattle.wavelet.specs.Bands.{τx, τy}
 use Rattle.wavelet.specs.Distance.{component-number}
-use Rattle.colour.specs.Rct.{numbersRct}
-use Rattle.colour.specs.declared.Numbers.{Numbers}
 use Rattle.output.specs.Linear.{distance, Precisions}
 use Rattle.layout.specs.declared.Shape.{Shape}
 use Rattle.layout.specs.Bands.{N′x, N′y, filter-type, band}
 use Rattle.layout.specs.Built.{Built}
+-- rule 3 is Annex F's
+unfoldable pub use Rattle.colour.specs.Table.{colouredNumber}
 
 -- B.3: the filter type with these letters and this depth across. Its depth down is the same, and N_L,y where there are no more levels
 abbrev pub type-of : Shape → Kind → ℕ → ℕ
@@ -29,16 +29,6 @@ numberOf s Fq tops i k dx dy = bandNumber (getD tops (band s (type-of s k dx) i)
 -- rule 2: a component's number
 unfoldable pub componentNumber : Shape → ℕ → List ℕ → ℕ → ℕ
 componentNumber s Fq tops i = component-number (N′x s i) (N′y s i) (numberOf s Fq tops i)
-
--- rule 3: with the reversible colour transform, the numbers of components 0, 1 and 2
-abbrev pub partOf : Numbers → ℕ → ℕ → ℕ
-partOf e rest zero = e .c0
-partOf e rest (suc zero) = e .c1
-partOf e rest (suc (suc zero)) = e .c2
-partOf e rest (suc (suc (suc i))) = rest
-
-unfoldable pub colouredNumber : ℕ → (ℕ → ℕ) → ℕ → ℕ
-colouredNumber Cpih e i = cond (eqb Cpih 1) (partOf (numbersRct (record { c0 = e 0; c1 = e 1; c2 = e 2 })) (e i) i) (e i)
 
 -- rules 4 and 5, with the component's precision B
 unfoldable pub distanceOf : Shape → ℕ → ℕ → ℕ → (ℕ → ℕ) → List ℕ → ℕ → ℕ

@@ -6,4 +6,6 @@ pub mod Chain
 pub mod Accepted
 pub mod Table
 pub mod Sites
+pub mod Rows
 pub mod Order
+pub mod Alike

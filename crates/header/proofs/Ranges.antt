@@ -23,6 +23,7 @@ use Rattle.segments.specs.Weights.{bandIn, bandsIn, gainAt, gainRow, gainChecks
 use Rattle.segments.proofs.NumberLaws.{cond-le}
 use Rattle.header.specs.Accepted.{largest, Sampled}
 use Rattle.header.specs.Header.{four, componentOf, bandIs, gainOf}
+use Rattle.header.proofs.Steps.{clash}
 
 -- ---- a component
 
@@ -148,21 +149,29 @@ unfolding existing
 existing-same is all zero l = refl
 existing-same is all (suc b) l = rw (existing-same is all b (omega arith), lt-ltb b all (omega arith))
 
-module _ (s : List ℕ) (h : Picture) (cdt wgt : ℕ) (e : first (gainChecks s wgt (bandsIn s h cdt)) ≡ Fine) where
-  abbrev all : ℕ
-  all = bands (h .nc) (h .nlx) (h .nly)
+-- an existing band is one of those that the weights table has
+pub band-number : (s : List ℕ) (h : Picture) (cdt b : ℕ) → bandIs s h cdt b ≡ true → existing (bandIs s h cdt) b < bandsIn s h cdt
+band-number s h cdt b = pick (ltb b all) (bandIn s h cdt b) refl refl
+  where
+    all : ℕ
+    all = bands (h .nc) (h .nlx) (h .nly)
 
+    pick : (t u : Bool) → t ≡ ltb b all → u ≡ bandIn s h cdt b → (t && u) ≡ true → existing (bandIs s h cdt) b < bandsIn s h cdt
+    pick true true p q e =
+        let l = ltb-true b all (sym p) in
+        omega (arith, existing-same (bandIn s h cdt) all b (omega arith), existing-lt (bandIn s h cdt) b all (sym q) l)
+    pick true false p q e = clash (sym e)
+    pick false u p q e = clash (sym e)
+
+module _ (s : List ℕ) (h : Picture) (cdt wgt : ℕ) (e : first (gainChecks s wgt (bandsIn s h cdt)) ≡ Fine) where
   gain-le : (b : ℕ) → gainOf s h cdt wgt b ≤ 15
-  gain-le b = pick (ltb b all) refl (bandIn s h cdt b) refl
+  gain-le b = pick (bandIs s h cdt b) refl
     where
-      pick : (t : Bool) → t ≡ ltb b all → (u : Bool) → u ≡ bandIn s h cdt b → cond (t && u) (gainAt s wgt (existing (bandIs s h cdt) b)) 0 ≤ 15
-      pick true p true q =
-          let l = ltb-true b all (sym p) in
-          let k = existing-same (bandIn s h cdt) all b (omega arith) in
-          let few : existing (bandIs s h cdt) b < bandsIn s h cdt = omega (arith, k, existing-lt (bandIn s h cdt) b all (sym q) l) in
-          held (gainRow s wgt (existing (bandIs s h cdt) b)) (each-fine (bandsIn s h cdt) (gainRow s wgt) e (existing (bandIs s h cdt) b) few) .0 .most
-      pick true p false q = zero-le
-      pick false p u q = zero-le
+      pick : (t : Bool) → bandIs s h cdt b ≡ t → cond t (gainAt s wgt (existing (bandIs s h cdt) b)) 0 ≤ 15
+      pick true is =
+          let k = existing (bandIs s h cdt) b in
+          held (gainRow s wgt k) (each-fine (bandsIn s h cdt) (gainRow s wgt) e k (band-number s h cdt b is)) .0 .most
+      pick false is = zero-le
 
   pub gains-at : (b : ℕ) → getD (listed 40 (gainOf s h cdt wgt)) b 0 ≤ 15
   gains-at b = pick (decLt b 40)

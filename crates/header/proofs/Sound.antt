@@ -61,6 +61,9 @@ pub record End (s : List ℕ) (w : Walk) : Type 0 where
 pub record Sound (s : List ℕ) (h : Picture) (w : Walk) : Type 0 where
   pub table : (w .seen .cdt ≡ 0 → ⊥) → first (componentsChecks s h (w .seen .cdt)) ≡ Fine
   pub weights : (w .seen .wgt ≡ 0 → ⊥) → (w .seen .cdt ≡ 0 → ⊥) × (first (gainChecks s (w .seen .wgt) (bandsIn s h (w .seen .cdt))) ≡ Fine)
+  -- both tables end before the walk's place
+  pub table-ends : (w .seen .cdt ≡ 0 → ⊥) → w .seen .cdt + 4 + 2 * h .nc ≤ w .at
+  pub weights-end : (w .seen .wgt ≡ 0 → ⊥) → w .seen .wgt + 4 + 2 * bandsIn s h (w .seen .cdt) ≤ w .at
   pub end : w .done ≡ true → w .verdict ≡ Fine → End s w
 
 module _ (s : List ℕ) (h : Picture) (w : Walk) (i : Sound s h w) where
@@ -70,6 +73,13 @@ module _ (s : List ℕ) (h : Picture) (w : Walk) (i : Sound s h w) where
   abbrev x : Seen
   x = w .seen
 
+  -- where no table is new
+  sound-later : {at crg cwd : ℕ} {caption done : Bool} {v : Verdict} → p ≤ at
+      → (done ≡ true → v ≡ Fine → End s (record { at = at; done = done; verdict = v; seen = record { cdt = x .cdt; wgt = x .wgt; caption = caption; crg = crg; cwd = cwd } }))
+      → Sound s h (record { at = at; done = done; verdict = v; seen = record { cdt = x .cdt; wgt = x .wgt; caption = caption; crg = crg; cwd = cwd } })
+  sound-later l end =
+      record { table = i .table; weights = i .weights; table-ends = λ n. omega (arith, i .table-ends n); weights-end = λ n. omega (arith, i .weights-end n); end = end }
+
   accepted-sound : (k : Kind) → Coded (fieldAt s p 16) k → first (headChecks (segmentAt s p)) ≡ Fine → first (checksOf k s h x (segmentAt s p)) ≡ Fine
       → Sound s h (accepted k s (segmentAt s p) x)
   accepted-sound Components m head e =
@@ -77,21 +87,31 @@ module _ (s : List ℕ) (h : Picture) (w : Walk) (i : Sound s h w) where
       let size = lengthChecks (segmentAt s p) Lcdt n n in
       let parts = append-fine (onceChecks Cdt p (x .cdt)) (size ++ componentsChecks s h p) e in
       let none = not-counted (x .cdt) (held (onceChecks Cdt p (x .cdt)) (parts .0) .0 .most) in
-      record { table = λ _. append-fine size (componentsChecks s h p) (parts .1) .1; weights = λ n. absurd (i .weights n .0 none); end = λ d _. clash (sym d) }
+      let own = append-fine size (componentsChecks s h p) (parts .1) in
+      record {
+        table = λ _. own .1;
+        weights = λ n. absurd (i .weights n .0 none);
+        table-ends = λ _. omega (arith, held size (own .0) .1 .1 .0 .least);
+        weights-end = λ n. absurd (i .weights n .0 none);
+        end = λ d _. clash (sym d);
+      }
   accepted-sound Weights m head e =
       let n = bandsIn s h (x .cdt) in
       let size = lengthChecks (segmentAt s p) Lwgt (2 + 2 * n) (2 + 2 * n) in
       let seen = seenChecks Lacking Cdt p (x .cdt) in
       let e1 = append-fine (onceChecks Wgt p (x .wgt)) (seen ++ (size ++ gainChecks s p n)) e .1 in
       let e2 = append-fine seen (size ++ gainChecks s p n) e1 in
+      let own = append-fine size (gainChecks s p n) (e2 .1) in
       record {
         table = i .table;
-        weights = λ _. (is-counted (x .cdt) (held seen (e2 .0) .0 .least), append-fine size (gainChecks s p n) (e2 .1) .1);
+        weights = λ _. (is-counted (x .cdt) (held seen (e2 .0) .0 .least), own .1);
+        table-ends = λ n. omega (arith, i .table-ends n);
+        weights-end = λ _. omega (arith, held size (own .0) .1 .1 .0 .least);
         end = λ d _. clash (sym d);
       }
-  accepted-sound Extension m head e = record { table = i .table; weights = i .weights; end = λ d _. clash (sym d) }
-  accepted-sound Undecomposed m head e = record { table = i .table; weights = i .weights; end = λ d _. clash (sym d) }
-  accepted-sound Registration m head e = record { table = i .table; weights = i .weights; end = λ d _. clash (sym d) }
+  accepted-sound Extension m head e = sound-later (omega arith) (λ d _. clash (sym d))
+  accepted-sound Undecomposed m head e = sound-later (omega arith) (λ d _. clash (sym d))
+  accepted-sound Registration m head e = sound-later (omega arith) (λ d _. clash (sym d))
   accepted-sound (Unbuilt f) m head e = absurd (unbuilt f e)
     where
       unbuilt : (f : Field) → first (unbuiltChecks f p) ≡ Fine → ⊥
@@ -101,18 +121,14 @@ module _ (s : List ℕ) (h : Picture) (w : Walk) (i : Sound s h w) where
       let wgt = seenChecks Marker Wgt p (x .wgt) in
       let both = append-fine cdt wgt e in
       let l = held (headChecks (segmentAt s p)) head .0 .least in
+      sound-later (omega arith)
+      (λ _ _.
       record {
-        table = i .table;
-        weights = i .weights;
-        end =
-            λ _ _.
-            record {
-              cdt = is-counted (x .cdt) (held cdt (both .0) .0 .least);
-              wgt = is-counted (x .wgt) (held wgt (both .1) .0 .least);
-              marker = m;
-              slice = omega arith;
-            };
-      }
+        cdt = is-counted (x .cdt) (held cdt (both .0) .0 .least);
+        wgt = is-counted (x .wgt) (held wgt (both .1) .0 .least);
+        marker = m;
+        slice = omega arith;
+      })
   accepted-sound Predicted m head e = absurd (unbuilt (append-fine (sliceChecks x (segmentAt s p)) (unbuiltChecks Sli p) e .1))
     where
       unbuilt : first (unbuiltChecks Sli p) ≡ Fine → ⊥
@@ -122,9 +138,9 @@ module _ (s : List ℕ) (h : Picture) (w : Walk) (i : Sound s h w) where
   judged-sound : (v : Verdict) (k : Kind) → Coded (fieldAt s p 16) k
       → (v ≡ Fine → (first (headChecks (segmentAt s p)) ≡ Fine) × (first (checksOf k s h x (segmentAt s p)) ≡ Fine)) → Sound s h (judged v k s (segmentAt s p) x)
   judged-sound Fine k m f = accepted-sound k m (f refl .0) (f refl .1)
-  judged-sound (Refused c) k m f = record { table = i .table; weights = i .weights; end = λ _ e. refused-fine e }
+  judged-sound (Refused c) k m f = sound-later (omega arith) (λ _ e. refused-fine e)
 
-  step-sound : Sound s h (step s h w)
+  pub step-sound : Sound s h (step s h w)
   unfolding step
   step-sound =
       let g = segmentAt s p in
@@ -158,11 +174,13 @@ module _ (s : List ℕ) (h : Picture) where
   pub walk-done : (p : ℕ) → walk s h p .done ≡ true
   walk-done p = walk-keeps (λ w. Unit {0}) (λ w i. tt) tt p tt .1
 
+  -- before any segment, and not at the end of an accepted walk
+  pub unseen-sound : {a : ℕ} {done : Bool} {v : Verdict} → (done ≡ true → v ≡ Fine → ⊥) → Sound s h (record { at = a; done = done; verdict = v; seen = noneSeen })
+  unseen-sound not-fine =
+      record { table = λ n. absurd (n refl); weights = λ n. absurd (n refl); table-ends = λ n. absurd (n refl); weights-end = λ n. absurd (n refl); end = λ d e. absurd (not-fine d e) }
+
   pub walk-sound : (p : ℕ) → Sound s h (walk s h p)
-  walk-sound p =
-      walk-keeps (Sound s h) (step-sound s h)
-      (record { table = λ n. absurd (n refl); weights = λ n. absurd (n refl); end = λ _ e. refused-fine e }) p
-      (record { table = λ n. absurd (n refl); weights = λ n. absurd (n refl); end = λ d _. clash (sym d) }) .0
+  walk-sound p = walk-keeps (Sound s h) (step-sound s h) (unseen-sound (λ _ e. refused-fine e)) p (unseen-sound (λ d _. clash (sym d))) .0
 
   -- before any segment
   pub unseen-inside : {a : ℕ} {done : Bool} {v : Verdict} → a ≤ length s → Inside s (record { at = a; done = done; verdict = v; seen = noneSeen })

@@ -49,6 +49,22 @@ module _ (s : List ℕ) (g : Segment) (x : Seen) where
   judged-verdict Fine k = accepted-fine k
   judged-verdict (Refused c) k = refl
 
+  -- no step goes back
+  accepted-up : (k : Kind) → g .at ≤ accepted k s g x .at
+  accepted-up Components = omega arith
+  accepted-up Weights = omega arith
+  accepted-up Extension = omega arith
+  accepted-up Undecomposed = omega arith
+  accepted-up Registration = omega arith
+  accepted-up (Unbuilt f) = omega arith
+  accepted-up Slice = omega arith
+  accepted-up Predicted = omega arith
+  accepted-up Unknown = omega arith
+
+  judged-up : (v : Verdict) (k : Kind) → g .at ≤ judged v k s g x .at
+  judged-up Fine k = accepted-up k
+  judged-up (Refused c) k = omega arith
+
 -- the walk goes on inside the stream
 abbrev Further : List ℕ → ℕ → Walk → Type 0
 Further s p w = (p + 4 ≤ w .at) × (w .at ≤ length s)
@@ -91,6 +107,12 @@ step-on s h w d =
     let g = segmentAt s (w .at) in
     let k = kindOf (g .marker) in
     judged-on s h (w .seen) (w .at) (first (segmentChecks s h (w .seen) g)) k (λ e. append-fine (headChecks g) (checksOf k s h (w .seen) g) e .1) d
+
+pub step-up : (s : List ℕ) (h : Picture) (w : Walk) → w .at ≤ step s h w .at
+unfolding step
+step-up s h w =
+    let g = segmentAt s (w .at) in
+    judged-up s g (w .seen) (first (segmentChecks s h (w .seen) g)) (kindOf (g .marker))
 
 -- ---- the walk ends by itself
 

@@ -32,7 +32,7 @@ module _ (W r c : ℕ) (h : c < W) where
   cell-below H k = omega (arith, mul-le-mul-right W k, suc-mul r W, mul-comm H W)
 
 -- a coefficient stands inside its component
-inside : {W H Nx Ny dx dy x y : ℕ} {k : Kind} → Coefficient W H Nx Ny k dx dy x y → (place (τx k) dx x < W) × (place (τy k) dy y < H)
+pub inside : {W H Nx Ny dx dy x y : ℕ} {k : Kind} → Coefficient W H Nx Ny k dx dy x y → (place (τx k) dx x < W) × (place (τy k) dy y < H)
 inside {W} {H} {Nx} {Ny} {dx} {dy} {x} {y} {k} c = (col k (c .has) (c .column), low k (c .has) (c .row))
   where
     col : (k : Kind) → Has Nx Ny k dx dy → x < columns W k dx → place (τx k) dx x < W

@@ -16,3 +16,4 @@ pub mod Once
 pub mod Tables
 pub mod Members
 pub mod Shared
+pub mod Slices

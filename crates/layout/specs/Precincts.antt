@@ -65,6 +65,13 @@ L0 s β i = 2 ^ (s .nly - depth s β i) * τy (kind s β)
 unfoldable pub L1 : Shape → ℕ → ℕ → ℕ → ℕ
 L1 s row β i = L0 s β i + lines s row β i * sy s i
 
+-- Table E.2 and B.11: the row of precincts that has row y of the band, by the rule above, and the slice that has that row
+abbrev pub row-with : Shape → ℕ → ℕ → ℕ → ℕ
+row-with s β i y = y * sy s i * 2 ^ depth s β i / 2 ^ s .nly
+
+abbrev pub slice-with : Shape → ℕ → ℕ → ℕ → ℕ
+slice-with s β i y = row-with s β i y / s .hsl
+
 -- B.11: the rows of precincts in slice t, its precincts, and its first row
 unfoldable pub slice-rows : Shape → ℕ → ℕ
 slice-rows s t = cond (ltb (Npy s) ((t + 1) * s .hsl)) (Npy s % s .hsl) (s .hsl)

@@ -13,7 +13,7 @@ module _ {S R : Type 0} (turn : ℕ → S → Turn S R) (x : S) where
   unfolding before
   before-none = refl
 
-  before-goes : (n : ℕ) {y : S} → turn n (before turn x n) ≡ go y → before turn x (n + 1) ≡ y
+  pub before-goes : (n : ℕ) {y : S} → turn n (before turn x n) ≡ go y → before turn x (n + 1) ≡ y
   unfolding before
   before-goes n e = rw (add-one n, e)
 

@@ -104,7 +104,7 @@ module _ (s : Shape) (built : Built s) {row column slot j : ℕ} (a : There s ro
     unfolding line-at lineOf
     there-exists = line-exists s built row column (type s slot j) (part s slot j) (slot-line slot) (fits .0) part-below (fits .2) (a .across) here x h
 
-    there-cell : cell-at x ≡ cell s (type s slot j) (part s slot j) (column-at x) (down s slot j row)
+    pub there-cell : cell-at x ≡ cell s (type s slot j) (part s slot j) (column-at x) (down s slot j row)
     unfolding line-at lineOf
     there-cell = line-inside s built row column (type s slot j) (part s slot j) (slot-line slot) (fits .0) part-below (fits .2) (a .across) here x h .0
 
@@ -192,6 +192,7 @@ pub record Addressed (s : Shape) (row column i β x y n : ℕ) : Type 0 where
   pub height : line-at s row column slot j .y ≡ y
   pub number : first-x s column β i + n ≡ x
   pub inside : n < line-at s row column slot j .width
+  pub behind : line-at s row column slot j .area ≡ area s i
   pub coefficient : line-at s row column slot j .cell + n * line-at s row column slot j .stride ≡ cell s β i x y
   pub count : line-at s row column slot j .cell + 4 * (n / 4) * line-at s row column slot j .stride + line-at s row column slot j .area
       ≡ cell s β i (first-x s column β i + 4 * (n / 4)) y + area s i
@@ -237,6 +238,7 @@ module _ (s : Shape) (built : Built s) {i β x y : ℕ} (h : i < s .nc) (e : Exi
         height = (λ n. first-y s row-here (m .type n) (m .component n) + slot-line slot / sy s (m .component n)) ∙ m .line;
         number = back;
         inside = omega (arith, across);
+        behind = λ n. area s (m .component n);
         coefficient = at (x - first-x s column-here β i) (omega (arith, across)) ∙ (λ n. cell s β i (back n) y);
         count = (λ n. at (4 * ((x - first-x s column-here β i) / 4)) (omega (arith, across)) n + area s (m .component n));
       }

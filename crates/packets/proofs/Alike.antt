@@ -1,5 +1,5 @@
 -- A packet depends on its precinct's header, on the fields of its own header and on the bytes of its subpackets: streams that are the same in these leave the
--- same. Assumes nothing.
+-- same. An accepted packet so depends on the bytes of its precinct. Assumes nothing.
 use Prim.Native.Nat.{ℕ, zero, suc, _+_, _-_, _*_, _/_, _≤_, _<_}
 use mathlib.Core.Path.{_≡_, refl, _∙_}
 use mathlib.Core.Bool.{Bool, true, false, not, cond, _&&_}
@@ -16,10 +16,10 @@ use Rattle.rows.specs.declared.Verdict.{Verdict}
 use Rattle.rows.specs.declared.Verdict.the-variants.{Fine, Refused}
 use Rattle.rows.specs.declared.Row.the-variants.{Length, Count, Mode}
 use Rattle.rows.specs.declared.Field.the-variants.{Packet, Dr, Significance, Counts, Data, Signs}
-use Rattle.bits.specs.Packet.{headerBytes}
+use Rattle.bits.specs.Packet.{headerBits, headerBytes}
 use Rattle.bits.specs.Alike.{Alike}
-use Rattle.bits.proofs.Alike.{field-alike, stretch-alike}
-use Rattle.layout.specs.Bands.{NL}
+use Rattle.bits.proofs.Alike.{alike-part, field-alike, stretch-alike}
+use Rattle.layout.specs.Bands.{NL, band-exists}
 use Rattle.layout.specs.Headers.{mode-bit, header-bytes}
 use Rattle.layout.specs.Slots.{candidates, sharing}
 use Rattle.layout.proofs.Sums.{modes-past}
@@ -31,18 +31,24 @@ use Rattle.packets.specs.declared.Precinct.{Precinct}
 use Rattle.packets.specs.Precincts.{D, T, stretch}
 use Rattle.packets.specs.Ready.{Slotted}
 use Rattle.packets.specs.Passes.{line, flags, marks, modeOf, placeOf, codingOf, Counting, counted, countTurn, packetCounts, packetValues}
-use Rattle.packets.specs.Packets.{head, raw, sigAt, Lsig, cntAt, datAt, sgnAt, Lsign, past, dataBytes, signBytes, flagChecks, headChecks, countChecks, dataChecks, signChecks, afterValues, valuesBy, afterCounts, countsOf, countsBy, packet}
+use Rattle.packets.specs.Packets.{signLength, head, raw, sigAt, Lsig, cntAt, datAt, sgnAt, Lsign, past, dataBytes, signBytes, flagChecks, headChecks, countChecks, dataChecks, signChecks, afterValues, valuesBy, afterCounts, countsOf, countsBy, packet}
+use Rattle.packets.specs.Leftover.{SameLeft}
 use Rattle.packets.proofs.Lines.{lies}
+use Rattle.packets.proofs.Laws.{packet-inside}
+
+-- ---- the modes, which stand in the precinct's header
+
+pub D-alike : (s s′ : List ℕ) (c : Setting) (p : Precinct) → Alike s s′ (p .at) (p .at + header-bytes (c .shape)) → (b : ℕ) → b < NL (c .shape)
+    → band-exists (c .shape) b ≡ true → D s′ c p b ≡ D s c p b
+unfolding D
+D-alike s s′ c p header b l e =
+    field-alike header (8 * p .at + mode-bit (c .shape) b) 2 (omega arith) (omega (arith, modes-past (c .shape) b (NL (c .shape)) l e))
 
 module _ (s s′ : List ℕ) (c : Setting) (p : Precinct) (slot : ℕ) (slotted : Slotted c p slot) (header : Alike s s′ (p .at) (p .at + header-bytes (c .shape))) where
-  -- ---- the modes, which stand in the precinct's header
-
   mode-alike : (j : ℕ) → j < candidates (c .shape) slot → line c p slot j .present ≡ true → D s′ c p (line c p slot j .band) ≡ D s c p (line c p slot j .band)
-  unfolding D
   mode-alike j l there =
-      let b = line c p slot j .band in
       let own = lies c p slot j slotted l there in
-      field-alike header (8 * p .at + mode-bit (c .shape) b) 2 (omega arith) (omega (arith, modes-past (c .shape) b (NL (c .shape)) (own .band) (own .exists)))
+      D-alike s s′ c p header (line c p slot j .band) (own .band) (own .exists)
 
   flags-alike : (raw : Bool) (j : ℕ) → j < candidates (c .shape) slot → flags s′ c p raw (line c p slot j) ≡ flags s c p raw (line c p slot j)
   flags-alike raw j l = by (line c p slot j .present) refl
@@ -149,3 +155,30 @@ module _ (s s′ : List ℕ) (c : Setting) (p : Precinct) (slot : ℕ) (slotted 
           by : (v : Verdict) → countsBy s′ c p slot at v cells ≡ countsBy s c p slot at v cells
           by Fine = (λ i. afterCounts s′ c p slot at (counts-of-alike cells i)) ∙ after-alike (countsOf s c p slot at cells)
           by (Refused k) = refl
+
+-- ---- an accepted packet, where the precinct has the same bytes
+
+-- Table C.4's header is made of whole bytes
+abbrev pub WholeHeader : Setting → Type 0
+WholeHeader c = 8 * headerBytes (c .widths) ≡ headerBits (c .widths)
+
+-- its header and its subpackets end in the precinct
+pub accepted-alike : {s s′ : List ℕ} (c : Setting) (p : Precinct) (slot : ℕ) → Slotted c p slot → WholeHeader c → Alike s s′ (p .at) (p .end)
+    → p .at + header-bytes (c .shape) ≤ p .end → (at : ℕ) → p .at ≤ at → at ≤ p .end → (raws : List ℕ) (cells : List ℤ) → packet s c p slot at raws cells .0 ≡ Fine
+    → SameLeft s s′ c p slot at raws cells
+accepted-alike {s} {s′} c p slot slotted whole alike wide at behind inside raws cells fine =
+    let ends = packet-inside s c p slot at raws cells inside fine in
+    let w = c .widths in
+    let same : head s′ c p slot at ≡ head s c p slot at = λ i. record {
+      dr = field-alike alike (8 * at) 1 (omega arith) (omega (arith, whole)) i;
+      ldat = field-alike alike (8 * at + 1) (w .dat) (omega arith) (omega (arith, whole)) i;
+      lcnt = field-alike alike (8 * at + 1 + w .dat) (w .cnt) (omega arith) (omega (arith, whole)) i;
+      lsgn = field-alike alike (8 * at + 1 + w .dat + w .cnt) (w .sgn) (omega arith) (omega (arith, whole)) i;
+    } in
+    let header = alike-part (p .at) (p .at + header-bytes (c .shape)) alike (omega arith) wide in
+    let body = alike-part (sigAt s c p slot at) (past s c p slot at) alike (omega arith) ends in
+    record {
+      left = packet-alike s s′ c p slot slotted header at (λ i. same i .dr) (λ i. same i .ldat) (λ i. same i .lcnt) (λ i. signLength c (same i)) body raws cells;
+      dr = λ i. same i .dr;
+      past = past-alike s s′ c p slot slotted header at (λ i. same i .dr) (λ i. same i .ldat) (λ i. same i .lcnt) (λ i. signLength c (same i));
+    }

@@ -15,3 +15,5 @@ pub mod Above
 pub mod Nibbles
 pub mod Alike
 pub mod Leftover
+pub mod Same
+pub mod CountCells

@@ -3,9 +3,16 @@ use Prim.Native.Nat.{ℕ}
 use mathlib.Core.List.{List}
 use mathlib.Core.Path.{_≡_, sym, _∙_}
 use lib.IntN.{ℤ}
-use Rattle.pitchladle.specs.Exported.{Handed}
+use Rattle.pitchladle.specs.Exported.{Handed, HandedDamaged}
 
 pub handed-once : {s a c₁ c₂ a₁ a₂ : List ℕ} {w w₁ w₂ : List ℤ} → Handed s a w c₁ a₁ w₁ → Handed s a w c₂ a₂ w₂
     → (c₁ ≡ c₂) × (a₁ ≡ a₂) × (w₁ ≡ w₂)
 handed-once x y =
     (x .cells-are ∙ sym (y .cells-are), x .reads .samples ∙ sym (y .reads .samples), x .reads .work ∙ sym (y .reads .work))
+
+pub handed-damaged-once : {s a m c₁ c₂ a₁ a₂ m₁ m₂ : List ℕ} {w w₁ w₂ : List ℤ} → HandedDamaged s a w m c₁ a₁ w₁ m₁ → HandedDamaged s a w m c₂ a₂ w₂ m₂
+    → (c₁ ≡ c₂) × (a₁ ≡ a₂) × (w₁ ≡ w₂) × (m₁ ≡ m₂)
+handed-damaged-once x y =
+    let p = x .reads in
+    let q = y .reads in
+    (x .cells-are ∙ sym (y .cells-are), p .samples ∙ sym (q .samples), p .work ∙ sym (q .work), p .marks ∙ sym (q .marks))

@@ -1,5 +1,5 @@
 -- What the exported functions leave, by the reader's and the header's definitions.
-use mathlib.Core.Bool.{cond}
+use mathlib.Core.Bool.{true, cond}
 use mathlib.Core.List.{List, [], _∷_, _++_}
 use mathlib.Core.Path.{_≡_}
 use Prim.Native.Nat.{ℕ}
@@ -11,6 +11,7 @@ use Rattle.header.specs.Header.{readingOf}
 use Rattle.header.specs.declared.header.Header.{Header}
 use Rattle.reader.specs.Settings.{N}
 use Rattle.reader.specs.Page.{pageOf, Reads}
+use Rattle.reader.specs.Modes.{pageIn, ReadsDamaged}
 use Rattle.reader.specs.declared.page.Page.{Page}
 
 -- ---- the page record, cell by cell
@@ -28,6 +29,11 @@ cellsOf p =
 pub record Handed (s a : List ℕ) (w : List ℤ) (cells a′ : List ℕ) (w′ : List ℤ) : Type 0 where
   pub cells-are : cells ≡ cellsOf (pageOf s (length a) (length w))
   pub reads : Reads s a w (pageOf s (length a) (length w)) a′ w′
+
+-- the same of a damaged page, with the marks m
+pub record HandedDamaged (s a : List ℕ) (w : List ℤ) (m cells a′ : List ℕ) (w′ : List ℤ) (m′ : List ℕ) : Type 0 where
+  pub cells-are : cells ≡ cellsOf (pageIn true s (length a) (length w) (length m))
+  pub reads : ReadsDamaged s a w m (pageIn true s (length a) (length w) (length m)) a′ w′ m′
 
 -- ---- N, how many samples the page has: 0 where the header is refused
 

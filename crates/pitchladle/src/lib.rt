@@ -10,7 +10,7 @@ ghost use mathlib.Core.Bool.{cond};
 ghost use Rattle.rows.specs.declared.Verdict.the-variants.{Fine};
 ghost use Rattle.layout.specs.Built.{Built};
 ghost use Rattle.shapes.specs.Shapes.{shapeOf};
-ghost use Rattle.pitchladle.specs.Exported.{cellsOf, Handed, neededBy, needed};
+ghost use Rattle.pitchladle.specs.Exported.{cellsOf, Handed, HandedDamaged, neededBy, needed};
 
 // 1 for yes and 0 for no.
 fn flag(b: bool) -> u64
@@ -62,6 +62,21 @@ pub extern "C" fn pitchladle_read(
     ensures { λ _. ⌜ Handed (now (stream .entry)) (now (samples .entry)) (now (work .entry)) (now (cells .exit)) (now (samples .exit)) (now (work .exit)) ⌝ }
 {
     let page = reader::read(stream, samples, work);
+    *cells = cells_of(page);
+}
+
+// Reads a page whose slices may be spoilt, and marks the samples that depend on what is lost; or refuses it.
+#[no_mangle]
+pub extern "C" fn pitchladle_read_damaged(
+    stream: &[u8],
+    samples: &mut [u16],
+    work: &mut [i64],
+    marks: &mut [u8],
+    cells: &mut [u64; 20],
+)
+    ensures { λ _. ⌜ HandedDamaged (now (stream .entry)) (now (samples .entry)) (now (work .entry)) (now (marks .entry)) (now (cells .exit)) (now (samples .exit)) (now (work .exit)) (now (marks .exit)) ⌝ }
+{
+    let page = reader::read_damaged(stream, samples, work, marks);
     *cells = cells_of(page);
 }
 

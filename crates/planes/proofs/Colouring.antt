@@ -14,7 +14,7 @@ use Rattle.layout.specs.declared.Shape.{Shape}
 use Rattle.layout.specs.Bands.{sx, sy, Wc, Hc}
 use Rattle.layout.specs.Built.{Built}
 use Rattle.layout.specs.Cells.{area}
-use Rattle.planes.specs.Values.{Values, pixelAt, partOf, coloured}
+use Rattle.planes.specs.Values.{Values, pixelAt, pixelPart, coloured}
 use Rattle.planes.specs.Places.{Inside, Colours}
 
 -- ---- Table F.1
@@ -23,7 +23,7 @@ pub coloured-none : {Cpih : ℕ} → Cpih ≢ 1 → (v : Values ℤ) (i x y : �
 unfolding coloured
 coloured-none {Cpih} n v i x y = rw (ne-eqb Cpih 1 n)
 
-pub coloured-rct : {Cpih : ℕ} → Cpih ≡ 1 → (v : Values ℤ) (i x y : ℕ) → coloured Cpih v i x y ≡ partOf (inverseRct (pixelAt v x y)) (v i x y) i
+pub coloured-rct : {Cpih : ℕ} → Cpih ≡ 1 → (v : Values ℤ) (i x y : ℕ) → coloured Cpih v i x y ≡ pixelPart (inverseRct (pixelAt v x y)) (v i x y) i
 unfolding coloured
 coloured-rct e v i x y = rw e
 
@@ -79,7 +79,7 @@ module _ {s : Shape} {Cpih : ℕ} (built : Built s) (colours : Colours s Cpih) w
       pixels one = rct-within (record { c0 = near one 0 (omega arith); c1 = near one 1 (omega arith); c2 = near one 2 (omega arith) })
 
       parts : Cpih ≡ 1 → (i : ℕ) → Within (e i) (v i x y) (w i x y)
-          → Within (n i) (partOf (inverseRct (pixelAt v x y)) (v i x y) i) (partOf (inverseRct (pixelAt w x y)) (w i x y) i)
+          → Within (n i) (pixelPart (inverseRct (pixelAt v x y)) (v i x y) i) (pixelPart (inverseRct (pixelAt w x y)) (w i x y) i)
       parts one zero h = within-le (pixels one .c0) (behind .red one)
       parts one (suc zero) h = within-le (pixels one .c1) (behind .green one)
       parts one (suc (suc zero)) h = within-le (pixels one .c2) (behind .blue one)
@@ -106,7 +106,7 @@ module _ {s : Shape} {Cpih : ℕ} (built : Built s) (colours : Colours s Cpih) w
       size-of-within
       (rw (zeros (ℕ-discrete Cpih 1)) at (coloured-within behind v (λ _ _ _. pos 0) i x y p (λ k q. within-of-size (v k x y) (given k x y q))))
     where
-      part-zero : (i : ℕ) → partOf (inverseRct (pixelAt (λ _ _ _. pos 0) x y)) (pos 0) i ≡ pos 0
+      part-zero : (i : ℕ) → pixelPart (inverseRct (pixelAt (λ _ _ _. pos 0) x y)) (pos 0) i ≡ pos 0
       part-zero zero = refl
       part-zero (suc zero) = refl
       part-zero (suc (suc zero)) = refl

@@ -1,29 +1,34 @@
 -- Laws of the whole way from coefficients to samples: sizes, which coefficients count, and how far a sample may be off. Assumes nothing.
 use mathlib.Core.Path.{_≡_, sym, subst, ap, _∙_}
+use mathlib.Core.Logic.{_≢_}
 use mathlib.Core.List.{List}
 use Prim.Native.Nat.{ℕ, _+_, _*_, _/_, _%_, _^_, _≤_, _<_}
-use native.Mathlib.Nat.{div-add-mod'}
+use native.Mathlib.Nat.{le-refl, div-add-mod'}
+use native.Mathlib.Decide.{ℕ-discrete}
 use native.Mathlib.Omega.{arith}
 use lib.IntN.{ℤ, pos, natAbs}
 use lib.Seq.{ext-getD}
 use Rattle.whole.specs.Cells.{cell}
 use Rattle.whole.specs.Numbers.{Within, Near}
 use Rattle.wavelet.specs.Filter.{samples}
-use Rattle.wavelet.specs.Transform.{Kind, Band, inverse}
+use Rattle.wavelet.specs.Transform.{Kind}
 use Rattle.wavelet.specs.Bands.{Coefficient}
-use Rattle.wavelet.specs.Distance.{numbers, component-number}
-use Rattle.wavelet.proofs.Components.{inverse-same, inverse-within, inverse-small, component-within}
+use Rattle.wavelet.specs.Distance.{component-number}
+use Rattle.wavelet.proofs.Components.{inverse-same, inverse-within, inverse-small, inverse-joined, component-within, component-most, placed}
 use Rattle.colour.specs.Rct.{numbersRct}
+use Rattle.colour.proofs.Table.{number-most}
 use Rattle.output.specs.Linear.{sample, distance}
 use Rattle.output.proofs.Laws.{sample-near, sample-below}
 use Rattle.layout.specs.declared.Shape.{Shape}
 use Rattle.layout.specs.Bands.{Wc, Hc, N′x, N′y}
 use Rattle.layout.specs.Built.{Built}
 use Rattle.layout.specs.Cells.{start}
-use Rattle.planes.specs.Values.{Coefficients, Values, transformed, coloured, sampled, samplesOf}
+use Rattle.planes.specs.Values.{Bands, Coefficients, Values, transformed, coloured, sampled, samplesOf}
 use Rattle.planes.specs.Places.{valuesIn, coefficientsIn, Inside, Colours, Ready, Holding}
+use Rattle.planes.specs.Numbers.{numbered, numbersOf, numbersIn, HoldingNumbers, filteredOf, colouredOf}
 use Rattle.planes.proofs.Stretches.{component, row-below, Owner, within, outside, owner}
-use Rattle.planes.proofs.Colouring.{Behind, coloured-within, coloured-same, coloured-size}
+use Rattle.planes.proofs.Colouring.{Behind, same-place, coloured-within, coloured-same, coloured-size}
+use Rattle.planes.proofs.EitherKind.{filtered-samples, filtered-numbers, kept-same}
 
 -- ---- sizes: no value leaves the machine's range
 
@@ -35,6 +40,35 @@ module _ {s : Shape} {l : List ℤ} (ready : Ready s (2 ^ 40) l) where
         arith,
         inverse-small (component (ready .built) (p .component)) (valuesIn s l i)
             (λ c r hc hr. ready .small i c r (record { component = p .component; column = hc; row = hr })) x y (p .column) (p .row),
+      )
+
+  -- numbers of at most 2 ^ 40 too
+  numbered-small : (i x y : ℕ) → Inside s i x y → numbered s (numbersIn s l) i x y ≤ 2 ^ 45
+  numbered-small i x y p =
+      let c = component (ready .built) (p .component) in
+      let parts = c .parts in
+      omega (
+        arith,
+        c .levels,
+        c .fewer,
+        inverse-joined parts (numbersIn s l i) (λ _ _ _. 2 ^ 40)
+            (λ k dx dy x y h. ready .small i _ _ (record { component = p .component; column = placed h .0; row = placed h .1 })) x y (p .column) (p .row),
+        component-most (N′x s i) (N′y s i) (parts .no-more) (λ _ _ _. 2 ^ 40) (2 ^ 40) (λ _ _ _ _. le-refl (2 ^ 40)),
+      )
+
+  pub filtered-small : (kind i x y : ℕ) → Inside s i x y → natAbs (filteredOf kind s l i x y) ≤ 2 ^ 45
+  filtered-small kind i x y p = pick (ℕ-discrete kind 0)
+    where
+      pick : Dec (kind ≡ 0) → natAbs (filteredOf kind s l i x y) ≤ 2 ^ 45
+      pick (yes e) = rw (filtered-samples s l i x y e) (transformed-small i x y p)
+      pick (no n) = rw (filtered-numbers s l i x y n) (numbered-small i x y p)
+
+  pub numbers-small : {Cpih : ℕ} → Colours s Cpih → (i x y : ℕ) → Inside s i x y → numbersOf s Cpih (numbersIn s l) i x y ≤ 2 ^ 60
+  numbers-small {Cpih} colours i x y p =
+      omega (
+        arith,
+        number-most Cpih (2 ^ 45) (λ j. numbered s (numbersIn s l) j x y)
+            (λ one j h. numbered-small j x y (same-place (ready .built) (colours .full one) p j (omega (arith, colours .three one)))) i (numbered-small i x y p),
       )
 
   pub values-small : {Cpih : ℕ} → Colours s Cpih
@@ -66,13 +100,17 @@ held-unique {s} {v} {l} {l′} {l″} built h g = ext-getD (pos 0) l′ l″ (h 
         let q : start s i + (n / Wc s i * Wc s i + n % Wc s i) ≡ j = omega (arith, div-add-mod' n (Wc s i)) in
         subst (λ (k : ℕ). cell l′ k ≡ cell l″ k) q (h .values i (n % Wc s i) (n / Wc s i) inside ∙ sym (g .values i (n % Wc s i) (n / Wc s i) inside))
 
+-- Annex E leaves numbers of numbers
+pub held-numbers : {s : Shape} {kind : ℕ} {l l′ : List ℤ} → kind ≢ 0 → Holding s (filteredOf kind s l) l l′ → HoldingNumbers s l′
+held-numbers {s} {l = l} n h = record { number = λ i x y p. rw (h .values i x y p ∙ filtered-numbers s l i x y n) }
+
 -- Annex F over what Annex E left
-pub held-coloured : {s : Shape} {Cpih : ℕ} {v : Values ℤ} {l l′ l″ : List ℤ} → Built s → Colours s Cpih → Holding s v l l′
-    → Holding s (coloured Cpih (valuesIn s l′)) l′ l″ → Holding s (coloured Cpih v) l l″
-held-coloured {s} {v = v} {l′ = l′} built colours h g =
+pub held-coloured : {s : Shape} {Cpih : ℕ} {v : Values ℤ} {l l′ l″ : List ℤ} → Built s → Colours s Cpih → (kind : ℕ) → Holding s v l l′
+    → Holding s (colouredOf kind Cpih (valuesIn s l′)) l′ l″ → Holding s (colouredOf kind Cpih v) l l″
+held-coloured {s} {v = v} {l′ = l′} built colours kind h g =
     record {
       same = g .same ∙ h .same;
-      values = λ i x y p. g .values i x y p ∙ coloured-same built colours (valuesIn s l′) v (h .values) i x y p;
+      values = λ i x y p. g .values i x y p ∙ kept-same built colours kind (valuesIn s l′) v (h .values) i x y p;
       other = λ n o. g .other n o ∙ h .other n o;
     }
 
@@ -82,10 +120,6 @@ held-coloured {s} {v = v} {l′ = l′} built colours h g =
 abbrev pub Every : Shape → (ℕ → Kind → ℕ → ℕ → ℕ → ℕ → Type 0) → Type 0
 Every s P =
     (i : ℕ) → i < s .nc → (k : Kind) (dx dy x y : ℕ) → Coefficient (Wc s i) (Hc s i) (N′x s i) (N′y s i) k dx dy x y → P i k dx dy x y
-
--- document 01's number of a value that Annex E makes of coefficients with these numbers
-abbrev pub placeNumber : Shape → (ℕ → Kind → ℕ → ℕ → Band ℕ) → Values ℕ
-placeNumber s N i = inverse numbers (Wc s i) (Hc s i) (N′x s i) (N′y s i) (N i)
 
 module _ {s : Shape} (built : Built s) where
   pub transformed-same : (T T′ : Coefficients) → Every s (λ i k dx dy x y. T i k dx dy x y ≡ T′ i k dx dy x y)
@@ -97,9 +131,9 @@ module _ {s : Shape} (built : Built s) where
   -- ---- distance
 
   -- a number for each coefficient, and one for each band: the numbers before Annex F
-  pub transformed-within-places : (N : ℕ → Kind → ℕ → ℕ → Band ℕ) (T T′ : Coefficients)
+  pub transformed-within-places : (N : Bands ℕ) (T T′ : Coefficients)
       → Every s (λ i k dx dy x y. Within (N i k dx dy x y) (T i k dx dy x y) (T′ i k dx dy x y))
-      → (i x y : ℕ) → Inside s i x y → Within (placeNumber s N i x y) (transformed s T i x y) (transformed s T′ i x y)
+      → (i x y : ℕ) → Inside s i x y → Within (numbered s N i x y) (transformed s T i x y) (transformed s T′ i x y)
   unfolding transformed
   transformed-within-places N T T′ given i x y p =
       inverse-within (built .sampled i (p .component) .parts) (T i) (T′ i) (N i) (given i (p .component)) x y (p .column) (p .row)
@@ -127,7 +161,7 @@ module _ {s : Shape} (built : Built s) where
     sampled-near behind v w i x y p given = sample-near Bw (B i) (coloured-within built colours behind v w i x y p given)
 
     -- place by place: coefficients that differ by at most their numbers
-    pub samples-of-near-places : (N : ℕ → Kind → ℕ → ℕ → Band ℕ) (n : Values ℕ) → ((x y : ℕ) → Behind Cpih (λ i. placeNumber s N i x y) (λ i. n i x y))
+    pub samples-of-near-places : (N : Bands ℕ) (n : Values ℕ) → ((x y : ℕ) → Behind Cpih (λ i. numbered s N i x y) (λ i. n i x y))
         → (T T′ : Coefficients) → Every s (λ i k dx dy x y. Within (N i k dx dy x y) (T i k dx dy x y) (T′ i k dx dy x y))
         → (i x y : ℕ) → Inside s i x y → Near (distance Bw (B i) (n i x y)) (samplesOf s Cpih Bw B T i x y) (samplesOf s Cpih Bw B T′ i x y)
     samples-of-near-places N n behind T T′ given i x y p =

@@ -1,8 +1,10 @@
 -- Laws of the way from coefficients to samples.
 pub mod Parts
 pub mod Stretches
-pub mod Transforms
 pub mod Colouring
+pub mod EitherKind
+pub mod Transforms
 pub mod Pixels
 pub mod Laws
 pub mod Planes
+pub mod Marking

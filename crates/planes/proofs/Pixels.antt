@@ -4,19 +4,22 @@ use mathlib.Core.Logic.{_≢_}
 use mathlib.Core.List.{List}
 use Prim.Native.Nat.{ℕ, zero, suc, _+_, _*_, _^_, _≤_, _<_}
 use native.Mathlib.Omega.{arith}
-use lib.IntN.{ℤ, natAbs}
+use lib.IntN.{ℤ, pos, natAbs}
 use lib.ListN.{length}
 use Rattle.whole.specs.Cells.{cell}
 use Rattle.colour.specs.Rct.{inverseRct}
-use Rattle.colour.specs.Pass.{pixel, Stretches, Transformed}
+use Rattle.colour.specs.Kinds.{raisedRct}
+use Rattle.colour.specs.Pass.{pixel, Stretches, Transformed, TransformedBy, HoldingNumbers as PixelNumbers}
 use Rattle.colour.specs.declared.Pixel.{Pixel}
 use Rattle.layout.specs.declared.Shape.{Shape}
 use Rattle.layout.specs.Bands.{sx, Wc}
 use Rattle.layout.specs.Cells.{area, samples, start}
-use Rattle.planes.specs.Values.{pixelAt, partOf, coloured}
+use Rattle.planes.specs.Values.{Values, pixelAt, pixelPart}
 use Rattle.planes.specs.Places.{valuesIn, Inside, Ready, Holding}
-use Rattle.planes.proofs.Colouring.{coloured-none, coloured-rct, same-width, same-area, same-place}
-use Rattle.planes.proofs.Stretches.{offset-below, stretches-apart, ready-one, stretch-fits, stretch-small}
+use Rattle.planes.specs.Numbers.{HoldingNumbers, colouredOf}
+use Rattle.planes.proofs.Colouring.{coloured-rct, same-width, same-area, same-place}
+use Rattle.planes.proofs.EitherKind.{coloured-samples, coloured-numbers, raised-part, kept-none}
+use Rattle.planes.proofs.Stretches.{offset-below, stretches-apart, ready-one, stretch-fits, stretch-small, stretch-number}
 
 -- ---- the reversible transform
 
@@ -57,6 +60,13 @@ module _ {s : Shape} {l : List ℤ} (ready : Ready s (2 ^ 45) l) (three : 3 ≤ 
         small = λ x h. record { c0 = small 0 x (omega arith) h; c1 = small 1 x (omega arith) h; c2 = small 2 x (omega arith) h };
       }
 
+  -- where the cells hold numbers the pixels do
+  holding : HoldingNumbers s l → PixelNumbers (start s 0) (start s 1) (start s 2) (area s 0) l
+  holding numbers = record { holds = λ x h j. record { c0 = one 0 x (omega arith) h j; c1 = one 1 x (omega arith) h j; c2 = one 2 x (omega arith) h j } }
+    where
+      one : (i x : ℕ) → i < 3 → x < area s 0 → cell l (start s i + x) ≡ pos (natAbs (cell l (start s i + x)))
+      one i x h b = stretch-number (ready .built) numbers (omega arith) x (omega (arith, size i (omega arith)))
+
   -- a cell that is none of the three components'
   outside : (n : ℕ) → ((i : ℕ) → i < 3 → start s i ≤ n → start s i + area s i ≤ n) → (x : ℕ) → x < area s 0
       → (n ≢ start s 0 + x) × (n ≢ start s 1 + x) × (n ≢ start s 2 + x)
@@ -65,21 +75,22 @@ module _ {s : Shape} {l : List ℤ} (ready : Ready s (2 ^ 45) l) (three : 3 ≤ 
       one : (i : ℕ) → i < 3 → n ≢ start s i + x
       one i g e = omega (arith, h i g (omega arith), size i (omega arith))
 
-  held : (l′ : List ℤ) → Transformed (start s 0) (start s 1) (start s 2) (area s 0) l l′
-      → Holding s (λ i x y. partOf (inverseRct (pixelAt (valuesIn s l) x y)) (valuesIn s l i x y) i) l l′
-  held l′ t =
+  -- l′ holds what f makes of the pixels, and so w
+  held-by : (f : Pixel → Pixel) (w : Values ℤ) → ((i x y : ℕ) → Inside s i x y → pixelPart (f (pixelAt (valuesIn s l) x y)) (valuesIn s l i x y) i ≡ w i x y)
+      → (l′ : List ℤ) → TransformedBy f (start s 0) (start s 1) (start s 2) (area s 0) l l′ → Holding s w l l′
+  held-by f w is l′ t =
       record {
         same = t .same;
-        values = by;
+        values = λ i x y h. by i x y h ∙ is i x y h;
         other = λ n h. t .off n (outside n (λ i g. h i (omega arith)));
       }
     where
-      pixel-made : {i x y : ℕ} → Inside s i x y → pixelAt (valuesIn s l′) x y ≡ inverseRct (pixelAt (valuesIn s l) x y)
+      pixel-made : {i x y : ℕ} → Inside s i x y → pixelAt (valuesIn s l′) x y ≡ f (pixelAt (valuesIn s l) x y)
       pixel-made {i} {x} {y} h =
           let p = same-place (ready .built) full h 0 (omega arith) in
-          pixel-at l′ x y ∙ t .on (y * Wc s 0 + x) (offset-below s 0 x y (p .column) (p .row)) ∙ ap inverseRct (sym (pixel-at l x y))
+          pixel-at l′ x y ∙ t .on (y * Wc s 0 + x) (offset-below s 0 x y (p .column) (p .row)) ∙ ap f (sym (pixel-at l x y))
 
-      by : (i x y : ℕ) → Inside s i x y → valuesIn s l′ i x y ≡ partOf (inverseRct (pixelAt (valuesIn s l) x y)) (valuesIn s l i x y) i
+      by : (i x y : ℕ) → Inside s i x y → valuesIn s l′ i x y ≡ pixelPart (f (pixelAt (valuesIn s l) x y)) (valuesIn s l i x y) i
       by zero x y h = ap (λ (p : Pixel). p .c0) (pixel-made h)
       by (suc zero) x y h = ap (λ (p : Pixel). p .c1) (pixel-made h)
       by (suc (suc zero)) x y h = ap (λ (p : Pixel). p .c2) (pixel-made h)
@@ -95,13 +106,25 @@ module _ {s : Shape} {l : List ℤ} (ready : Ready s (2 ^ 45) l) (three : 3 ≤ 
     unfolding samples
     rct-taken = rw (second, third, own) stretches
 
-    pub rct-held : {Cpih : ℕ} {l′ : List ℤ} → Cpih ≡ 1 → Transformed 0 (2 * b) (2 * d) n l l′ → Holding s (coloured Cpih (valuesIn s l)) l l′
+    pub rct-numbers : HoldingNumbers s l → PixelNumbers 0 (2 * b) (2 * d) n l
     unfolding samples
-    rct-held {Cpih} {l′} e t =
-        let h = held l′ (rw (second, third, own) at t) in
-        record { same = h .same; values = λ i x y p. h .values i x y p ∙ sym (coloured-rct e (valuesIn s l) i x y); other = h .other }
+    rct-numbers numbers = rw (second, third, own) (holding numbers)
+
+    module _ {kind Cpih : ℕ} {l′ : List ℤ} (one : Cpih ≡ 1) where
+      pub rct-held : kind ≡ 0 → Transformed 0 (2 * b) (2 * d) n l l′ → Holding s (colouredOf kind Cpih (valuesIn s l)) l l′
+      unfolding samples
+      rct-held e t =
+          held-by inverseRct (colouredOf kind Cpih (valuesIn s l))
+          (λ i x y p. sym (coloured-samples Cpih (valuesIn s l) i x y e ∙ coloured-rct one (valuesIn s l) i x y)) l′ (rw (second, third, own) at t)
+
+      pub rct-numbered : kind ≢ 0 → HoldingNumbers s l → TransformedBy raisedRct 0 (2 * b) (2 * d) n l l′ → Holding s (colouredOf kind Cpih (valuesIn s l)) l l′
+      unfolding samples
+      rct-numbered e numbers t =
+          held-by raisedRct (colouredOf kind Cpih (valuesIn s l))
+          (λ i x y p. raised-part one (valuesIn s l) i x y (numbers .number i x y p) ∙ sym (coloured-numbers Cpih (valuesIn s l) i x y e)) l′
+          (rw (second, third, own) at t)
 
 -- ---- no transform
-pub none-held : {s : Shape} {Cpih : ℕ} {l : List ℤ} → Cpih ≢ 1 → Holding s (coloured Cpih (valuesIn s l)) l l
-none-held {s} {Cpih} {l} n =
-    record { same = refl; values = λ i x y h. sym (coloured-none n (valuesIn s l) i x y); other = λ n h. refl }
+pub none-held : {s : Shape} {Cpih : ℕ} {l : List ℤ} → Cpih ≢ 1 → (kind : ℕ) → (kind ≢ 0 → HoldingNumbers s l) → Holding s (colouredOf kind Cpih (valuesIn s l)) l l
+none-held {s} {Cpih} {l} none kind numbers =
+    record { same = refl; values = λ i x y p. sym (kept-none none kind (valuesIn s l) i x y (λ n. numbers n .number i x y p)); other = λ n h. refl }

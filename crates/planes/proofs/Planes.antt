@@ -146,7 +146,7 @@ planes-held {s} {v} {l′ = l′} built h Bw B =
 -- ---- a component's samples, written to their part of the list
 
 module _ {s : Shape} {i : ℕ} {l : List ℤ} (ready : ReadyOne s (2 ^ 60) i l) where
-  -- what Annex G makes of the component's stretch
+  -- what f makes of the component's stretch
   plane-is : (f : ℤ → ℕ) → map f (take (area s i) (drop (start s i) l)) ≡ plane (Wc s i) (Hc s i) (λ x y. f (valuesIn s l i x y))
   plane-is f =
       ext-getD (f (pos 0)) (map f part) (plane (Wc s i) (Hc s i) (λ x y. f (valuesIn s l i x y)))
@@ -186,11 +186,11 @@ module _ {s : Shape} {i : ℕ} {l : List ℤ} (ready : ReadyOne s (2 ^ 60) i l) 
         small : (j : ℕ) → j < area s i → natAbs (cell (take (area s i) (drop (start s i) l)) j) ≤ 2 ^ 60
         small j h = rw (part-at (start s i) (area s i) l (stretch-fits ready) (pos 0) j h) (stretch-small ready j h)
 
-    pub samples-given : (Bw B : ℕ) {ys : List ℕ} → ys ≡ map (sample Bw B) values-part
-        → take b out ++ (ys ++ drop (b + n - b) (drop b out)) ≡ withPlane s i (λ x y. sample Bw B (valuesIn s l i x y)) out
-    samples-given Bw B {ys} e =
-        let made : ys ≡ plane (Wc s i) (Hc s i) (λ x y. sample Bw B (valuesIn s l i x y)) =
-        (rw (between (2 * b) n, before, size) at e) ∙ plane-is (sample Bw B) in
+    -- what f makes of the values, such as Annex G's samples, given back
+    pub plane-given : (f : ℤ → ℕ) {ys : List ℕ} → ys ≡ map f values-part
+        → take b out ++ (ys ++ drop (b + n - b) (drop b out)) ≡ withPlane s i (λ x y. f (valuesIn s l i x y)) out
+    plane-given f {ys} e =
+        let made : ys ≡ plane (Wc s i) (Hc s i) (λ x y. f (valuesIn s l i x y)) = (rw (between (2 * b) n, before, size) at e) ∙ plane-is f in
         sym (append-assoc (take b out) ys (drop (b + n - b) (drop b out)))
         ∙ ap (λ (t : List ℕ). take b out ++ ys ++ t) (drop-drop (b + n - b) b out)
         ∙ (λ j. take (before j) out ++ made j ++ drop (before j + (between b n ∙ size) j) out)

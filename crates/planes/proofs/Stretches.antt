@@ -1,12 +1,12 @@
 -- The stretches of the work cells that hold the components' values. Assumes nothing.
-use mathlib.Core.Path.{_≡_, refl}
+use mathlib.Core.Path.{_≡_, refl, subst}
 use mathlib.Core.Logic.{_≢_}
 use mathlib.Core.List.{List}
 use Prim.Native.Nat.{ℕ, zero, suc, _+_, _*_, _-_, _/_, _%_, _≤_, _<_}
 use native.Mathlib.Nat.{mul-comm, mod-lt, div-lt-iff-lt-mul, div-add-mod'}
 use native.Mathlib.Decide.{ℕ-discrete, decLt}
 use native.Mathlib.Omega.{arith}
-use lib.IntN.{ℤ, natAbs}
+use lib.IntN.{ℤ, pos, natAbs}
 use lib.ListN.{length}
 use Rattle.whole.specs.Cells.{cell}
 use Rattle.wavelet.specs.Places.{Component}
@@ -18,6 +18,7 @@ use Rattle.layout.specs.Sizes.{component-of}
 use Rattle.layout.proofs.Shapes.{component-small}
 use Rattle.layout.proofs.Cells.{cell-below, starts-up}
 use Rattle.planes.specs.Places.{Ready}
+use Rattle.planes.specs.Numbers.{HoldingNumbers}
 use Rattle.planes.specs.Components.{ReadyOne}
 
 -- a component is one that Annex E takes
@@ -89,3 +90,11 @@ module _ {s : Shape} {bound i : ℕ} {l : List ℤ} (ready : ReadyOne s bound i 
       let p = row-below (ready .built) (ready .there) n h in
       let e : n / Wc s i * Wc s i + n % Wc s i ≡ n = div-add-mod' n (Wc s i) in
       rw e at (ready .small (n % Wc s i) (n / Wc s i) (p .0) (p .1))
+
+-- where the cells hold numbers, each of a stretch does
+pub stretch-number : {s : Shape} {i : ℕ} {l : List ℤ} → Built s → HoldingNumbers s l → i < s .nc → (n : ℕ) → n < area s i
+    → cell l (start s i + n) ≡ pos (natAbs (cell l (start s i + n)))
+stretch-number {s} {i} {l} built numbers h n b =
+    let p = row-below built h n b in
+    subst (λ (k : ℕ). cell l (start s i + k) ≡ pos (natAbs (cell l (start s i + k)))) (div-add-mod' n (Wc s i))
+    (numbers .number i (n % Wc s i) (n / Wc s i) (record { component = h; column = p .0; row = p .1 }))

@@ -1,35 +1,33 @@
 -- Annex E for one component after the other, in place. Assumes nothing.
-use mathlib.Core.Path.{_≡_, refl, _∙_}
+use mathlib.Core.Path.{_≡_, refl, sym, subst, ap, _∙_}
+use mathlib.Core.Logic.{_≢_}
 use mathlib.Core.List.{List, _++_}
 use Prim.Native.Nat.{ℕ, _+_, _*_, _-_, _^_, _≤_, _<_}
 use native.Mathlib.Nat.{le-refl}
 use native.Mathlib.Decide.{ℕ-discrete}
 use native.Mathlib.Omega.{arith}
-use lib.IntN.{ℤ, pos}
+use lib.IntN.{ℤ, pos, natAbs}
 use lib.ListN.{length, take, drop}
 use Rattle.whole.specs.Cells.{cell}
 use Rattle.wavelet.specs.Filter.{samples}
-use Rattle.wavelet.specs.Transform.{Band, inverse}
+use Rattle.wavelet.specs.Transform.{Band}
 use Rattle.wavelet.specs.Bands.{Decomposed}
-use Rattle.wavelet.specs.Places.{sample-at, bands, Component, Transformed}
+use Rattle.wavelet.specs.Distance.{numbers}
+use Rattle.wavelet.specs.Places.{sample-at, Component, Transformed}
+use Rattle.wavelet.specs.Numbers.{number-at, NumbersWithin, Numbered}
 use Rattle.wavelet.specs.Grids.{SamplesWithin}
-use Rattle.wavelet.proofs.Components.{inverse-same, placed}
 use Rattle.layout.specs.declared.Shape.{Shape}
 use Rattle.layout.specs.Bands.{Wc, Hc, N′x, N′y}
 use Rattle.layout.specs.Cells.{area, samples as samples-before, start}
 use Rattle.layout.specs.Sizes.{component-of}
 use Rattle.layout.specs.declared.bands.Component.{Component as Part}
 use Rattle.planes.specs.Values.{Values, transformed}
-use Rattle.planes.specs.Places.{valuesIn, coefficientsIn, Ready, Holding}
+use Rattle.planes.specs.Places.{valuesIn, Ready, Holding}
+use Rattle.planes.specs.Numbers.{sizes, NumbersOne, HoldingNumbers, filteredOf}
 use Rattle.planes.specs.Components.{ReadyOne, HoldingOne}
+use Rattle.planes.proofs.EitherKind.{inverse-placed, filtered-samples, filtered-numbers, filtered-placed}
 use Rattle.planes.proofs.Parts.{between, part-length, part-at, back-length, back-on, back-off}
 use Rattle.planes.proofs.Stretches.{component, stretch-fits, offset-below, stretches-apart}
-
--- coefficients that stand in equal values make equal values
-pub inverse-placed : {W H Nx Ny : ℕ} → Decomposed W H Nx Ny → (P P′ : Band ℤ) → ((x y : ℕ) → x < W → y < H → P x y ≡ P′ x y)
-    → (x y : ℕ) → x < W → y < H → inverse samples W H Nx Ny (bands P) x y ≡ inverse samples W H Nx Ny (bands P′) x y
-inverse-placed parts P P′ same =
-    inverse-same parts samples (bands P) (bands P′) (λ k dx dy x y c. same _ _ (placed c .0) (placed c .1))
 
 -- ---- a component's stretch, lent
 
@@ -50,31 +48,66 @@ module _ {s : Shape} {i : ℕ} {l : List ℤ} (ready : ReadyOne s (2 ^ 40) i l) 
     record { most = λ x y c r. rw (lent-values x y c r) (ready .small x y c r) },
   )
 
-  lent-given : (ys : List ℤ) → Transformed (Wc s i) (Hc s i) (N′x s i) (N′y s i) lent ys
-      → HoldingOne s i (transformed s (coefficientsIn s l) i) l (take (start s i) l ++ (ys ++ drop (area s i) (drop (start s i) l)))
-  unfolding transformed
-  lent-given ys t =
-      let e : length ys ≡ area s i = t .same ∙ part-length (start s i) (area s i) l fits in
+  lent-numbers : NumbersOne s i l → NumbersWithin (Wc s i) (Hc s i) (2 ^ 40) lent
+  lent-numbers n = record {
+    number = λ x y c r. subst (λ (z : ℤ). z ≡ pos (natAbs z)) (sym (lent-values x y c r)) (n .number x y c r);
+    most = λ x y c r. rw (lent-values x y c r) (ready .small x y c r);
+  }
+
+  -- as many cells given back, with g in them
+  abbrev given-back : List ℤ → List ℤ
+  given-back ys = take (start s i) l ++ (ys ++ drop (area s i) (drop (start s i) l))
+
+  lent-given : (g : Band ℤ) (ys : List ℤ) → length ys ≡ length lent → ((x y : ℕ) → x < Wc s i → y < Hc s i → sample-at (Wc s i) ys x y ≡ g x y)
+      → HoldingOne s i g l (given-back ys)
+  lent-given g ys long made =
+      let e : length ys ≡ area s i = long ∙ part-length (start s i) (area s i) l fits in
       record {
         same = back-length (start s i) (area s i) l fits ys e;
-        values = λ x y c r.
-            back-on (start s i) (area s i) l fits ys e (pos 0) (y * Wc s i + x) (offset-below s i x y c r)
-            ∙ t .made x y c r
-            ∙ inverse-placed (ready .built .sampled i (ready .there) .parts) (sample-at (Wc s i) lent) (valuesIn s l i) lent-values x y c r;
+        values = λ x y c r. back-on (start s i) (area s i) l fits ys e (pos 0) (y * Wc s i + x) (offset-below s i x y c r) ∙ made x y c r;
         other = back-off (start s i) (area s i) l fits ys e (pos 0);
       }
+
+  parts : Decomposed (Wc s i) (Hc s i) (N′x s i) (N′y s i)
+  parts = ready .built .sampled i (ready .there) .parts
+
+  samples-given : {kind : ℕ} → kind ≡ 0 → (ys : List ℤ) → Transformed (Wc s i) (Hc s i) (N′x s i) (N′y s i) lent ys
+      → HoldingOne s i (filteredOf kind s l i) l (given-back ys)
+  unfolding transformed
+  samples-given {kind} e ys t =
+      lent-given (filteredOf kind s l i) ys (t .same)
+      (λ x y c r. t .made x y c r
+      ∙ inverse-placed samples parts (sample-at (Wc s i) lent) (valuesIn s l i) lent-values x y c r
+      ∙ sym (filtered-samples s l i x y e))
+
+  numbers-given : {kind : ℕ} → kind ≢ 0 → (ys : List ℤ) → Numbered (Wc s i) (Hc s i) (N′x s i) (N′y s i) lent ys
+      → HoldingOne s i (filteredOf kind s l i) l (given-back ys)
+  numbers-given {kind} n ys t =
+      lent-given (filteredOf kind s l i) ys (t .same)
+      (λ x y c r. t .made x y c r
+      ∙ ap pos (inverse-placed numbers parts (number-at (Wc s i) lent) (sizes (valuesIn s l) i) (λ x y c r. ap natAbs (lent-values x y c r)) x y c r)
+      ∙ sym (filtered-numbers s l i x y n))
 
   -- the same as the code has it: from the b samples of the components before it and its own n, with r for what the layout says of it
   module _ {b n : ℕ} {r : Part} (before : b ≡ samples-before s i) (size : n ≡ area s i) (is : r ≡ component-of s i) where
     abbrev part : List ℤ
     part = take (2 * b + n - 2 * b) (drop (2 * b) l)
 
+    abbrev part-back : List ℤ → List ℤ
+    part-back ys = take (2 * b) l ++ (ys ++ drop (2 * b + n - 2 * b) (drop (2 * b) l))
+
     pub part-taken : Component (r .w) (r .h) (s .nlx) (r .ny) (length part) × SamplesWithin (r .w) (r .h) (2 ^ 40) part
     part-taken = rw (between (2 * b) n, before, size, is) lent-taken
 
-    pub part-given : {ys : List ℤ} → Transformed (r .w) (r .h) (s .nlx) (r .ny) part ys
-        → HoldingOne s i (transformed s (coefficientsIn s l) i) l (take (2 * b) l ++ (ys ++ drop (2 * b + n - 2 * b) (drop (2 * b) l)))
-    part-given {ys} t = rw (between (2 * b) n, before, size) (lent-given ys (rw (between (2 * b) n, before, size, is) at t))
+    pub part-numbers : NumbersOne s i l → Component (r .w) (r .h) (s .nlx) (r .ny) (length part) × NumbersWithin (r .w) (r .h) (2 ^ 40) part
+    part-numbers numbers = rw (between (2 * b) n, before, size, is) (lent-taken .0, lent-numbers numbers)
+
+    module _ {kind : ℕ} {ys : List ℤ} where
+      pub part-given : kind ≡ 0 → Transformed (r .w) (r .h) (s .nlx) (r .ny) part ys → HoldingOne s i (filteredOf kind s l i) l (part-back ys)
+      part-given e t = rw (between (2 * b) n, before, size) (samples-given e ys (rw (between (2 * b) n, before, size, is) at t))
+
+      pub part-numbered : kind ≢ 0 → Numbered (r .w) (r .h) (s .nlx) (r .ny) part ys → HoldingOne s i (filteredOf kind s l i) l (part-back ys)
+      part-numbered e t = rw (between (2 * b) n, before, size) (numbers-given e ys (rw (between (2 * b) n, before, size, is) at t))
 
 -- ---- the first k components
 
@@ -122,7 +155,7 @@ module _ {s : Shape} {k : ℕ} {v : Values ℤ} {l l′ : List ℤ} (f : Holding
 
 -- ---- a turn
 
-module _ {s : Shape} {k : ℕ} {l l′ : List ℤ} (ready : Ready s (2 ^ 40) l) (f : HoldingFirst s k (transformed s (coefficientsIn s l)) l l′) (h : k < s .nc)
+module _ (kind : ℕ) {s : Shape} {k : ℕ} {l l′ : List ℤ} (ready : Ready s (2 ^ 40) l) (f : HoldingFirst s k (filteredOf kind s l) l l′) (h : k < s .nc)
   where
     still : (x y : ℕ) → x < Wc s k → y < Hc s k → valuesIn s l′ k x y ≡ valuesIn s l k x y
     still x y c r = first-later f k x y (le-refl k) c r
@@ -136,8 +169,11 @@ module _ {s : Shape} {k : ℕ} {l l′ : List ℤ} (ready : Ready s (2 ^ 40) l) 
           small = λ x y c r. rw (still x y c r) (ready .small k x y (record { component = h; column = c; row = r }));
         }
 
-    -- coefficients that still stand as they stood are transformed as they were
-    pub first-turn : {l″ : List ℤ} → HoldingOne s k (transformed s (coefficientsIn s l′) k) l′ l″
-        → HoldingFirst s (k + 1) (transformed s (coefficientsIn s l)) l l″
-    unfolding transformed
-    first-turn one = first-more f one (inverse-placed (ready .built .sampled k h .parts) (valuesIn s l′ k) (valuesIn s l k) still)
+    pub first-numbers : HoldingNumbers s l → NumbersOne s k l′
+    first-numbers n = record {
+      number = λ x y c r. subst (λ (z : ℤ). z ≡ pos (natAbs z)) (sym (still x y c r)) (n .number k x y (record { component = h; column = c; row = r }));
+    }
+
+    -- what still stands as it stood is transformed as it was
+    pub first-turn : {l″ : List ℤ} → HoldingOne s k (filteredOf kind s l′ k) l′ l″ → HoldingFirst s (k + 1) (filteredOf kind s l) l l″
+    first-turn one = first-more f one (filtered-placed (ready .built) kind k h l′ l still)

@@ -1,44 +1,48 @@
 -- From the coefficients of a picture to its samples: Annex E for each component, Annex F, Annex G.
-use mathlib.Core.Bool.{cond}
 use mathlib.Core.List.{List, [], _++_}
 use Prim.Native.Nat.{ℕ, zero, suc, _*_, _/_, _%_}
-use lib.Dec.{eqb}
 use lib.IntN.{ℤ}
 use Rattle.whole.specs.Cells.{listed}
-use Rattle.wavelet.specs.Filter.{samples}
+use Rattle.wavelet.specs.Filter.{Steps, samples}
 use Rattle.wavelet.specs.Transform.{Kind, Band, inverse}
 use Rattle.colour.specs.Rct.{inverseRct}
+use Rattle.colour.specs.Table.{partOf, table-F1}
 use Rattle.colour.specs.declared.Pixel.{Pixel}
 use Rattle.output.specs.Linear.{sample}
 use Rattle.layout.specs.declared.Shape.{Shape}
 use Rattle.layout.specs.Bands.{Wc, Hc, N′x, N′y}
 
--- T[β, x, y] of each component i, with β by its letters and depths
+-- the band arrays T[β, x, y] of each component i, with β by its letters and depths
+abbrev pub Bands : Type 0 → Type 0
+Bands A = ℕ → Kind → ℕ → ℕ → Band A
+
 abbrev pub Coefficients : Type 0
-Coefficients = ℕ → Kind → ℕ → ℕ → Band ℤ
+Coefficients = Bands ℤ
 
 -- a value for each component i, column x and row y
 abbrev pub Values : Type 0 → Type 0
 Values A = ℕ → Band A
 
--- Annex E: every component is decomposed
+-- Annex E, of any kind of value that its filter has steps for: every component is decomposed
+abbrev pub filtered : {A : Type 0} → Steps A → Shape → Bands A → Values A
+filtered S s T i = inverse S (Wc s i) (Hc s i) (N′x s i) (N′y s i) (T i)
+
 unfoldable pub transformed : Shape → Coefficients → Values ℤ
-transformed s T i = inverse samples (Wc s i) (Hc s i) (N′x s i) (N′y s i) (T i)
+transformed s T i = filtered samples s T i
 
 -- the pixel in column x and row y
 abbrev pub pixelAt : Values ℤ → ℕ → ℕ → Pixel
 pixelAt v x y = record { c0 = v 0 x y; c1 = v 1 x y; c2 = v 2 x y }
 
 -- component i of a pixel; a fourth component takes no part
-abbrev pub partOf : Pixel → ℤ → ℕ → ℤ
-partOf p rest zero = p .c0
-partOf p rest (suc zero) = p .c1
-partOf p rest (suc (suc zero)) = p .c2
-partOf p rest (suc (suc (suc i))) = rest
+abbrev pub pixelPart : Pixel → ℤ → ℕ → ℤ
+pixelPart p = partOf (p .c0) (p .c1) (p .c2)
 
--- Annex F, Table F.1: Cpih is 1 for the reversible transform of F.3, and 0 for none
+-- Annex F, Tables F.1 and F.2
 unfoldable pub coloured : ℕ → Values ℤ → Values ℤ
-coloured Cpih v i x y = cond (eqb Cpih 1) (partOf (inverseRct (pixelAt v x y)) (v i x y) i) (v i x y)
+coloured Cpih v i x y =
+    let o : Pixel = inverseRct (pixelAt v x y) in
+    table-F1 Cpih (o .c0) (o .c1) (o .c2) (λ j. v j x y) i
 
 -- G.3, with each component's precision
 unfoldable pub sampled : ℕ → (ℕ → ℕ) → Values ℤ → Values ℕ

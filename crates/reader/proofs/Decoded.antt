@@ -1,14 +1,17 @@
--- What the slices leave behind an accepted header. Assumes nothing.
-use mathlib.Core.Path.{_≡_, sym, ap, _∙_, subst}
-use mathlib.Core.List.{List}
+-- What the slices leave behind an accepted header, in either mode. Assumes nothing.
+use mathlib.Core.Path.{_≡_, refl, sym, ap, _∙_, subst}
+use mathlib.Core.Bool.{Bool, true, false, cond}
+use mathlib.Core.List.{List, []}
 use Prim.Native.Nat.{ℕ, _+_, _*_, _^_, _≤_, _<_}
 use native.Mathlib.Decide.{decLt}
 use native.Mathlib.Omega.{arith}
 use lib.IntN.{ℤ, pos}
 use lib.ListN.{length, getD, replicate, length-replicate, getD-replicate, List·getD-eq-default}
 use lib.Pow.{pow-mono}
-use Rattle.whole.specs.Cells.{Bounded}
+use Rattle.whole.specs.Cells.{cell, Bounded}
+use Rattle.whole.proofs.Lists.{replicated}
 use Rattle.rows.specs.declared.Verdict.{Verdict}
+use Rattle.rows.specs.declared.Verdict.the-variants.{Fine, Refused}
 use Rattle.header.specs.declared.header.Header.{Header}
 use Rattle.shapes.specs.Shapes.{shapeOf}
 use Rattle.layout.specs.declared.Shape.{Shape}
@@ -16,17 +19,22 @@ use Rattle.layout.specs.Bands.{Wc}
 use Rattle.layout.specs.Cells.{start}
 use Rattle.layout.proofs.Cells.{starts-up}
 use Rattle.packets.specs.declared.Setting.{Setting}
+use Rattle.packets.specs.Ready.{Settled}
 use Rattle.slices.specs.Slice.{State, Left}
 use Rattle.slices.specs.Stream.{stream}
 use Rattle.slices.specs.Steps.{Lent}
 use Rattle.slices.proofs.Laws.{Few, stream-length, stream-bounded, stream-few}
+use Rattle.damage.specs.Stream.{streamBy}
+use Rattle.damage.proofs.Laws.{damaged-length, damaged-bounded, damaged-few}
 use Rattle.planes.specs.Places.{coefficientsIn, Inside}
 use Rattle.planes.proofs.Stretches.{offset-below}
 use Rattle.reader.specs.declared.page.Page.{Page}
 use Rattle.reader.specs.Settings.{settingOf, N}
-use Rattle.reader.specs.Decoding.{handed, distancesFrom, decoded, tops, cells}
+use Rattle.reader.specs.Decoding.{handed, distancesFrom}
 use Rattle.reader.specs.Page.{pageBy}
-use Rattle.reader.specs.Steps.{Opened, Decoded, IsSetting, filledBy, Shows, Decodes}
+use Rattle.reader.specs.Modes.{begun, decodedBy, topsIn, lostMarks}
+use Rattle.reader.specs.Steps.{Opened, Decoded, IsSetting, Markable, filledBy, Shows, marksFrom, MarkedIn, DecodesIn}
+use Rattle.reader.proofs.Lost.{marks-told}
 use Rattle.reader.proofs.Openings.{fq-few, settled}
 
 -- a value stands before the end of the last component
@@ -40,68 +48,98 @@ cleared n = record { most = λ j l. rw (getD-replicate n j (pos 0) (pos 0) (omeg
 
 -- no band has a T yet
 pub none-yet : (b : ℕ) → _≡_ {A = ℕ} (getD (replicate 40 0) b 0) 0
-none-yet b = by (decLt b 40)
-  where
-    by : Dec (b < 40) → _≡_ {A = ℕ} (getD (replicate 40 0) b 0) 0
-    by (yes l) = getD-replicate {A = ℕ} 40 b 0 0 l
-    by (no l) = List·getD-eq-default {A = ℕ} (replicate 40 0) 0 {n = b} (omega (arith, length-replicate {A = ℕ} 40 0))
+none-yet b = replicated 40 b 0
 
 -- ---- the slices of a page
 
-module _ {s : List ℕ} {h : Header} (o : Opened s h) where
-  abbrev from : State
-  from = (h .slice, replicate 40 0, replicate (2 * N h) (pos 0))
+-- the laws of both modes
+module _ (s : List ℕ) (c : Setting) (settled : Settled c) (x : State) where
+  stream-long : (damaged : Bool) → length (streamBy s c damaged x .1 .2) ≡ length (x .2)
+  unfolding streamBy stream
+  stream-long false = stream-length s c settled x
+  stream-long true = damaged-length s c settled x
 
+  stream-small : (damaged : Bool) {B : ℕ} → 2 ^ (31 + c .fq) ≤ B → Bounded B (x .2) → Bounded B (streamBy s c damaged x .1 .2)
+  unfolding streamBy stream
+  stream-small false most = stream-bounded s c settled most x
+  stream-small true most = damaged-bounded s c settled most x
+
+  tops-few : (damaged : Bool) → Few (x .1) → Few (streamBy s c damaged x .1 .1)
+  unfolding streamBy stream
+  tops-few false = stream-few s c settled x
+  tops-few true = damaged-few s c settled x
+
+module _ {s : List ℕ} {h : Header} (o : Opened s h) where
   pub lent : {c : Setting} → IsSetting h c → {n : ℕ} → n ≡ 2 * N h → Lent s c (h .slice) n
   lent e room =
       record { settled = e .settled; short = o .accepted .short; inside = omega (arith, o .accepted .slice); room = rw (e .is) (omega arith) }
 
-  pub decoded-long : length (cells s h) ≡ 2 * N h
-  unfolding decoded
-  decoded-long = stream-length s (settingOf h) (settled o) from ∙ length-replicate (2 * N h) (pos 0)
+  module _ (damaged : Bool) where
+    pub decoded-long : length (decodedBy s h damaged .1 .2) ≡ 2 * N h
+    unfolding decodedBy
+    decoded-long = stream-long s (settingOf h) (settled o) (begun s h) damaged ∙ length-replicate (2 * N h) (pos 0)
 
-  decoded-small : Bounded (2 ^ 40) (cells s h)
-  unfolding decoded
-  decoded-small =
-      let few : h .picture .fq ≤ 8 = fq-few (o .accepted .ranges) in
-      stream-bounded s (settingOf h) (settled o) (pow-mono {i = 31 + h .picture .fq} {j = 40} (omega arith)) from (cleared (2 * N h))
+    decoded-small : Bounded (2 ^ 40) (decodedBy s h damaged .1 .2)
+    unfolding decodedBy
+    decoded-small =
+        let few : h .picture .fq ≤ 8 = fq-few (o .accepted .ranges) in
+        stream-small s (settingOf h) (settled o) (begun s h) damaged (pow-mono {i = 31 + h .picture .fq} {j = 40} (omega arith)) (cleared (2 * N h))
 
-  pub decoded-few : Few (tops s h)
-  unfolding decoded
-  decoded-few = stream-few s (settingOf h) (settled o) from (λ b. omega (arith, none-yet b))
+    pub decoded-few : Few (topsIn s h damaged)
+    unfolding decodedBy
+    decoded-few = tops-few s (settingOf h) (settled o) (begun s h) damaged (λ b. omega (arith, none-yet b))
 
-  pub decoded-is : (a : ℕ) → a ≡ N h → Decoded h a (tops s h) (cells s h)
-  decoded-is a room =
-      record {
-        ranges = o .accepted .ranges;
-        room = room;
-        ready =
-            record {
-              built = o .shape;
-              room = omega (arith, decoded-long);
-              small = λ i x y at. decoded-small .most _ (omega (arith, decoded-long, value-inside (shapeOf h) i x y at));
-            };
-        few = decoded-few;
-      }
+    pub decoded-is : (a : ℕ) → a ≡ N h → Decoded h a (topsIn s h damaged) (decodedBy s h damaged .1 .2)
+    decoded-is a room =
+        record {
+          ranges = o .accepted .ranges;
+          room = room;
+          ready =
+              record {
+                built = o .shape;
+                room = omega (arith, decoded-long);
+                small = λ i x y at. decoded-small .most _ (omega (arith, decoded-long, value-inside (shapeOf h) i x y at));
+              };
+          few = decoded-few;
+        }
 
 -- ---- what `decode` leaves
 
-module _ (s : List ℕ) (h : Header) where
+module _ (s : List ℕ) (h : Header) (damaged : Bool) where
   pub left-is : {c : Setting} {w : List ℤ} {n : ℕ} {left : Left} → c ≡ settingOf h → w ≡ replicate n (pos 0) → n ≡ 2 * N h
-      → stream s c (h .slice, replicate 40 0, w) ≡ left → decoded s h ≡ left
-  unfolding decoded
+      → streamBy s c damaged (h .slice, replicate 40 0, w) ≡ left → decodedBy s h damaged ≡ left
+  unfolding decodedBy
   left-is e f g st =
       let zeros = f ∙ ap (λ (m : ℕ). replicate m (pos 0)) g in
-      (λ i. stream s (sym e i) (h .slice, replicate 40 0, sym zeros i)) ∙ st
+      (λ i. streamBy s (sym e i) damaged (h .slice, replicate 40 0, sym zeros i)) ∙ st
 
-module _ {s : List ℕ} {h : Header} (o : Opened s h) {v : Verdict} {at : ℕ} {t : List ℕ} {w′ : List ℤ} (p : decoded s h ≡ (v, (at, t, w′))) where
+module _ {s : List ℕ} {h : Header} (o : Opened s h) (damaged : Bool) {v : Verdict} {at : ℕ} {t : List ℕ} {w′ : List ℤ} (p : decodedBy s h damaged ≡ (v, (at, t, w′))) where
   pub shown-of : (a : ℕ) → a ≡ N h → Decoded h a t w′
-  shown-of a room = subst (λ (z : Left). Decoded h a (z .1 .1) (z .1 .2)) p (decoded-is o a room)
+  shown-of a room = subst (λ (z : Left). Decoded h a (z .1 .1) (z .1 .2)) p (decoded-is o damaged a room)
 
-  pub decodes : {a a′ : List ℕ} {w w″ w‴ : List ℤ} {r : Page} → length w ≡ 2 * N h → Shows v h t a w′ r a′ w″ → w‴ ≡ replicate (length w″) (pos 0) → Decodes s h a w r a′ w‴
-  decodes {a} l q e =
-      record {
-        page = q .page ∙ (λ i. pageBy (sym p i .0) h (distancesFrom h (sym p i .1 .1)));
-        samples = q .samples ∙ (λ i. filledBy (sym p i .0) (handed h (coefficientsIn (shapeOf h) (sym p i .1 .2))) a);
-        work = e ∙ ap (λ (n : ℕ). replicate n (pos 0)) (q .same ∙ ap (λ (z : Left). length (z .1 .2)) (sym p) ∙ decoded-long o ∙ sym l);
-      }
+  left-long : length w′ ≡ 2 * N h
+  left-long = ap (λ (z : Left). length (z .1 .2)) (sym p) ∙ decoded-long o damaged
+
+  pub marked-of : {r : Page} {a a′ : List ℕ} {w″ : List ℤ} → Shows v h t a w′ r a′ w″ → Markable h (N h) w″
+  marked-of q = record { ranges = o .accepted .ranges; built = o .shape; enough = omega (arith, q .same, left-long); room = refl }
+
+  -- the marks that the count cells give are those of the lost coefficients
+  module _ {r : Page} {a a′ : List ℕ} {w″ : List ℤ} (q : Shows v h t a w′ r a′ w″) (m : List ℕ) where
+    marks-right : filledBy v (cond damaged (marksFrom h w″) []) m ≡ filledBy v (cond damaged (lostMarks s h) []) m
+    marks-right = by v damaged p q
+      where
+        by : (v : Verdict) (damaged : Bool) → decodedBy s h damaged ≡ (v, (at, t, w′)) → Shows v h t a w′ r a′ w″
+            → filledBy v (cond damaged (marksFrom h w″) []) m ≡ filledBy v (cond damaged (lostMarks s h) []) m
+        by (Refused k) damaged p q = refl
+        by Fine false p q = refl
+        by Fine true p q = marks-told o (λ i. p i .0) w″ (λ n far. q .other n far ∙ (λ i. cell (sym p i .1 .2) n))
+
+    pub decodes : {w w‴ w⁗ : List ℤ} {m′ : List ℕ} → length w ≡ 2 * N h → MarkedIn v damaged h w″ w‴ m m′ → w⁗ ≡ replicate (length w‴) (pos 0)
+        → DecodesIn damaged s h a w m r a′ w⁗ m′
+    decodes l k e =
+        record {
+          page = q .page ∙ (λ i. pageBy (sym p i .0) h (distancesFrom h (sym p i .1 .1)));
+          samples = q .samples ∙ (λ i. filledBy (sym p i .0) (handed h (coefficientsIn (shapeOf h) (sym p i .1 .2))) a);
+          work = e ∙ ap (λ (n : ℕ). replicate n (pos 0)) (k .same ∙ q .same ∙ left-long ∙ sym l);
+          marks = k .marks ∙ marks-right ∙ (λ i. filledBy (sym p i .0) (cond damaged (lostMarks s h) []) m);
+        }

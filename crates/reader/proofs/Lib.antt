@@ -1,5 +1,7 @@
 -- Laws of the reader.
 pub mod Openings
 pub mod Shown
+pub mod Lost
+pub mod Marking
 pub mod Decoded
 pub mod Leaving

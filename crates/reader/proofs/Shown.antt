@@ -37,8 +37,9 @@ module _ {h : Header} {tops a a′ d : List ℕ} {w w′ : List ℤ} {r : Page} 
         page = page ∙ ap (pageRead h) distant;
         samples = made ∙ planes-held built held (h .picture .bw) (depthOf h);
         same = held .same;
+        other = held .other;
       }
 
 -- and where the slices are refused
 pub shows-none : {v : Verdict} {k : Check} {h : Header} {tops a : List ℕ} {w : List ℤ} {r : Page} → v ≡ Refused k → r ≡ pageRefused v → Shows v h tops a w r a w
-shows-none e page = rw e (record { page = rw e at page; samples = refl; same = refl })
+shows-none e page = rw e (record { page = rw e at page; samples = refl; same = refl; other = λ n far. refl })

@@ -2,5 +2,6 @@
 pub mod Settings
 pub mod Decoding
 pub mod Page
+pub mod Modes
 pub mod Steps
 pub mod Sizes

@@ -1,22 +1,31 @@
 -- What the steps of a reading ask and answer.
-use mathlib.Core.List.{List}
+use mathlib.Core.Bool.{Bool, true, false, cond}
+use mathlib.Core.List.{List, []}
 use mathlib.Core.Path.{_≡_}
-use Prim.Native.Nat.{ℕ, _^_, _≤_}
-use lib.IntN.{ℤ, pos}
+use Prim.Native.Nat.{ℕ, _+_, _*_, _^_, _≤_, _<_}
+use lib.IntN.{ℤ, pos, negsuc}
 use lib.ListN.{length, getD, replicate}
 use Rattle.rows.specs.declared.Verdict.{Verdict}
 use Rattle.rows.specs.declared.Verdict.the-variants.{Fine, Refused}
+use Rattle.whole.specs.Cells.{cell}
+use Rattle.wavelet.specs.Places.{bands}
+use Rattle.layout.specs.declared.Shape.{Shape}
+use Rattle.layout.specs.Bands.{Wc}
 use Rattle.layout.specs.Built.{Built}
+use Rattle.layout.specs.Cells.{area, start}
 use Rattle.header.specs.Accepted.{Ranges, Accepted}
 use Rattle.header.specs.declared.header.Header.{Header}
 use Rattle.shapes.specs.Shapes.{shapeOf}
 use Rattle.packets.specs.declared.Setting.{Setting}
 use Rattle.packets.specs.Ready.{Settled}
+use Rattle.planes.specs.Values.{Bands, planes}
+use Rattle.planes.specs.Marks.{markOf, bit}
 use Rattle.planes.specs.Places.{coefficientsIn, Ready}
 use Rattle.reader.specs.declared.page.Page.{Page}
 use Rattle.reader.specs.Settings.{settingOf, N}
-use Rattle.reader.specs.Decoding.{handed, distancesFrom, decodedVerdict, tops, coefficients}
+use Rattle.reader.specs.Decoding.{handed, distancesFrom}
 use Rattle.reader.specs.Page.{pageBy}
+use Rattle.reader.specs.Modes.{verdictIn, topsIn, coefficientsOf, lostMarks}
 
 -- ---- what is asked
 
@@ -31,6 +40,13 @@ pub record Decoded (h : Header) (samples : ℕ) (tops : List ℕ) (cells : List 
   pub room : samples ≡ N h
   pub ready : Ready (shapeOf h) (2 ^ 40) cells
   pub few : (b : ℕ) → getD tops b 0 ≤ 31
+
+-- room for the cells of the components, and for as many marks as there are samples
+pub record Markable (h : Header) (marks : ℕ) (cells : List ℤ) : Type 0 where
+  pub ranges : Ranges h
+  pub built : Built (shapeOf h)
+  pub enough : start (shapeOf h) (shapeOf h .nc) ≤ length cells
+  pub room : marks ≡ N h
 
 -- ---- what is answered
 
@@ -48,8 +64,33 @@ pub record Shows (v : Verdict) (h : Header) (tops a : List ℕ) (w : List ℤ) (
   pub page : r ≡ pageBy v h (distancesFrom h tops)
   pub samples : a′ ≡ filledBy v (handed h (coefficientsIn (shapeOf h) w)) a
   pub same : length w′ ≡ length w
+  -- and with the count cells as they were
+  pub other : (n : ℕ) → ((i : ℕ) → i < shapeOf h .nc → start (shapeOf h) i ≤ n → start (shapeOf h) i + area (shapeOf h) i ≤ n) → cell w′ n ≡ cell w n
 
-pub record Decodes (s : List ℕ) (h : Header) (a : List ℕ) (w : List ℤ) (r : Page) (a′ : List ℕ) (w′ : List ℤ) : Type 0 where
-  pub page : r ≡ pageBy (decodedVerdict s h) h (distancesFrom h (tops s h))
-  pub samples : a′ ≡ filledBy (decodedVerdict s h) (handed h (coefficients s h)) a
+-- a lost coefficient's count cell is negative
+abbrev pub isLost : ℤ → Bool
+isLost (pos n) = false
+isLost (negsuc n) = true
+
+-- the coefficients that the count cells tell to be lost
+abbrev pub lostIn : Shape → List ℤ → Bands Bool
+lostIn s l i = bands (λ x y. isLost (cell l (start s i + area s i + (y * Wc s i + x))))
+
+-- and the marks that they give
+abbrev pub marksFrom : Header → List ℤ → List ℕ
+marksFrom h w = planes (shapeOf h) (λ i x y. bit (markOf (shapeOf h) (h .picture .cpih) (lostIn (shapeOf h) w) i x y)) (h .picture .nc)
+
+pub record Marked (h : Header) (w w′ : List ℤ) (m′ : List ℕ) : Type 0 where
+  pub marks : m′ ≡ marksFrom h w
+  pub same : length w′ ≡ length w
+
+-- by the verdict v, in either mode
+pub record MarkedIn (v : Verdict) (damaged : Bool) (h : Header) (w w′ : List ℤ) (m m′ : List ℕ) : Type 0 where
+  pub marks : m′ ≡ filledBy v (cond damaged (marksFrom h w) []) m
+  pub same : length w′ ≡ length w
+
+pub record DecodesIn (damaged : Bool) (s : List ℕ) (h : Header) (a : List ℕ) (w : List ℤ) (m : List ℕ) (r : Page) (a′ : List ℕ) (w′ : List ℤ) (m′ : List ℕ) : Type 0 where
+  pub page : r ≡ pageBy (verdictIn s h damaged) h (distancesFrom h (topsIn s h damaged))
+  pub samples : a′ ≡ filledBy (verdictIn s h damaged) (handed h (coefficientsOf s h damaged)) a
   pub work : w′ ≡ replicate (length w) (pos 0)
+  pub marks : m′ ≡ filledBy (verdictIn s h damaged) (cond damaged (lostMarks s h) []) m

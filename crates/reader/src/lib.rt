@@ -7,6 +7,7 @@ use crate::page::Page;
 use crate::records::refused;
 use crate::records::shown;
 use crate::settings::setting_of;
+use damage::lost::lost_numbers;
 use header::header::Header;
 use layout::lines::samples_before;
 use rows::AMPLE;
@@ -15,16 +16,20 @@ use rows::Field;
 use rows::Row;
 use rows::Verdict;
 ghost use mathlib.Core.Path.{_≡_};
+ghost use mathlib.Core.Bool.{cond};
+ghost use mathlib.Core.List.{[], _∷_};
 ghost use Prim.Native.Nat.{_*_, _^_, _≤_};
 ghost use lib.IntN.{pos};
 ghost use lib.ListN.{length, replicate};
-ghost use Rattle.rows.specs.Rows.{first, then};
+ghost use Rattle.rows.specs.Rows.{check, ample, first, then};
+ghost use Rattle.rows.specs.declared.Row.the-variants.{Lent};
+ghost use Rattle.rows.specs.declared.Field.the-variants.{Marks};
 ghost use Rattle.rows.specs.declared.Verdict.the-variants.{Fine};
 ghost use Rattle.header.specs.Header.{readingOf};
-ghost use Rattle.reader.specs.Settings.{N, roomChecks};
-ghost use Rattle.reader.specs.Decoding.{decodedVerdict};
-ghost use Rattle.reader.specs.Page.{Leaves, Reads};
-ghost use Rattle.reader.specs.Steps.{Opened, Decoded, Shows, Decodes};
+ghost use Rattle.reader.specs.Settings.{N};
+ghost use Rattle.reader.specs.Page.{Reads};
+ghost use Rattle.reader.specs.Modes.{verdictIn, roomChecksIn, LeavesIn, ReadsIn, ReadsDamaged};
+ghost use Rattle.reader.specs.Steps.{Opened, Decoded, Shows, Markable, Marked, MarkedIn, DecodesIn};
 
 // All cells 0.
 fn clear(cells: &mut [i64])
@@ -63,75 +68,174 @@ fn show_by(v: Verdict, samples: &mut [u16], cells: &mut [i64], h: Header, tops: 
     }
 }
 
-// The page behind an accepted header, into N samples, by 2N work cells. There is one way out, past the last `clear`.
-fn decode(stream: &[u8], samples: &mut [u16], cells: &mut [i64], h: Header) -> Page
-    requires { ⌜ Opened (now stream) h × (length (now samples) ≡ N h) × (length (now cells) ≡ 2 * N h) ⌝ }
-    ensures { λ r. ⌜ Decodes (now (stream .entry)) h (now (samples .entry)) (now (cells .entry)) r (now (samples .exit)) (now (cells .exit)) ⌝ }
+// The marks of a page, from the count cells of its lost coefficients. The coefficient cells are free by now: they take the numbers that the marks are made of.
+fn mark(cells: &mut [i64], marks: &mut [u8], h: Header)
+    requires { ⌜ Markable h (length (now marks)) (now cells) ⌝ }
+    ensures { λ _. ⌜ Marked h (now (cells .entry)) (now (cells .exit)) (now (marks .exit)) ⌝ }
+{
+    let s = shapes::shape_of(h);
+    let p = h.picture;
+    lost_numbers(cells, s);
+    planes::numbers(cells, s, p.cpih);
+    planes::marks(cells, marks, s);
+}
+
+// The same where the page is read as a damaged one, and nothing else.
+fn mark_in(damaged: bool, cells: &mut [i64], marks: &mut [u8], h: Header)
+    requires { ⌜ Markable h (N h) (now cells) × (length (now marks) ≡ cond damaged (N h) 0) ⌝ }
+    ensures { λ _. ⌜ MarkedIn Fine damaged h (now (cells .entry)) (now (cells .exit)) (now (marks .entry)) (now (marks .exit)) ⌝ }
+{
+    if damaged {
+        mark(cells, marks, h);
+    }
+}
+
+// And nothing where the slices are refused.
+fn mark_by(v: Verdict, damaged: bool, cells: &mut [i64], marks: &mut [u8], h: Header)
+    requires { ⌜ Markable h (N h) (now cells) × (length (now marks) ≡ cond damaged (N h) 0) ⌝ }
+    ensures { λ _. ⌜ MarkedIn v damaged h (now (cells .entry)) (now (cells .exit)) (now (marks .entry)) (now (marks .exit)) ⌝ }
+{
+    match v {
+        Verdict::Fine => mark_in(damaged, cells, marks, h),
+        Verdict::Refused(_) => {}
+    }
+}
+
+// The page behind an accepted header, into N samples and, of a damaged page, N marks, by 2N work cells. There is one way out, past the last `clear`.
+fn decode(
+    damaged: bool,
+    stream: &[u8],
+    samples: &mut [u16],
+    cells: &mut [i64],
+    marks: &mut [u8],
+    h: Header,
+) -> Page
+    requires { ⌜ Opened (now stream) h × (length (now samples) ≡ N h) × (length (now cells) ≡ 2 * N h) × (length (now marks) ≡ cond damaged (N h) 0) ⌝ }
+    ensures { λ r. ⌜ DecodesIn damaged (now (stream .entry)) h (now (samples .entry)) (now (cells .entry)) (now (marks .entry)) r (now (samples .exit)) (now (cells .exit)) (now (marks .exit)) ⌝ }
 {
     let c = setting_of(h);
     clear(cells);
-    let r = slices::stream(stream, cells, c, h.slice, [0; 40]);
+    let r = damage::stream(damaged, stream, cells, c, h.slice, [0; 40]);
     let v = r.verdict;
     let tops = r.tops;
     let page = show_by(v, samples, cells, h, tops);
+    mark_by(v, damaged, cells, marks, h);
     clear(cells);
     page
 }
 
-// Row 5, at the first slice header: N sample cells, and 2N work cells.
-fn room_row(h: Header, n: usize, samples: usize, work: usize) -> Verdict
-    requires { ⌜ (n ≡ N h) × (n ≤ 2 ^ 30) ⌝ }
-    ensures { λ r. ⌜ r ≡ first (roomChecks h samples work) ⌝ }
+// Row 5, at the first slice header: of a damaged page, N marks.
+fn marks_row(damaged: bool, h: Header, n: usize, marks: usize) -> Verdict
+    requires { ⌜ n ≡ N h ⌝ }
+    ensures { λ r. ⌜ r ≡ first (cond damaged (check Lent (h .slice) Marks marks (N h) ample ∷ []) []) ⌝ }
 {
-    rows::two(
-        Check(Row::Lent, h.slice, Field::Samples, samples, n, AMPLE),
-        Check(Row::Lent, h.slice, Field::Work, work, 2 * n, AMPLE),
-    )
+    if damaged {
+        return rows::one(Check(Row::Lent, h.slice, Field::Marks, marks, n, AMPLE));
+    }
+    Verdict::Fine
 }
 
-// Where row 5 has passed, the first N samples and the first 2N work cells are lent on.
+// Before them N sample cells, and 2N work cells.
+fn room_row(
+    damaged: bool,
+    h: Header,
+    n: usize,
+    samples: usize,
+    work: usize,
+    marks: usize,
+) -> Verdict
+    requires { ⌜ (n ≡ N h) × (n ≤ 2 ^ 30) ⌝ }
+    ensures { λ r. ⌜ r ≡ first (roomChecksIn damaged h samples work marks) ⌝ }
+{
+    let plain = rows::two(
+        Check(Row::Lent, h.slice, Field::Samples, samples, n, AMPLE),
+        Check(Row::Lent, h.slice, Field::Work, work, 2 * n, AMPLE),
+    );
+    rows::then(plain, marks_row(damaged, h, n, marks))
+}
+
+// Where row 5 has passed, the first N samples, the first 2N work cells and, of a damaged page, the first N marks are lent on.
 fn decode_by(
     v: Verdict,
+    damaged: bool,
     stream: &[u8],
     samples: &mut [u16],
     work: &mut [i64],
+    marks: &mut [u8],
     h: Header,
     n: usize,
 ) -> Page
-    requires { ⌜ Opened (now stream) h × (n ≡ N h) × (n ≤ 2 ^ 30) × (v ≡ first (roomChecks h (length (now samples)) (length (now work)))) ⌝ }
-    ensures { λ r. ⌜ Leaves (now (stream .entry)) h v (then v (decodedVerdict (now (stream .entry)) h)) (now (samples .entry)) (now (work .entry)) r (now (samples .exit)) (now (work .exit)) ⌝ }
+    requires { ⌜ Opened (now stream) h × (n ≡ N h) × (n ≤ 2 ^ 30) × (v ≡ first (roomChecksIn damaged h (length (now samples)) (length (now work)) (length (now marks)))) ⌝ }
+    ensures { λ r. ⌜ LeavesIn damaged (now (stream .entry)) h v (then v (verdictIn (now (stream .entry)) h damaged)) (now (samples .entry)) (now (work .entry)) (now (marks .entry)) r (now (samples .exit)) (now (work .exit)) (now (marks .exit)) ⌝ }
 {
     match v {
         Verdict::Fine => {
             let cells = 2 * n;
-            decode(stream, &mut samples[..n], &mut work[..cells], h)
+            let marked = rows::choose(damaged, n, 0);
+            decode(
+                damaged,
+                stream,
+                &mut samples[..n],
+                &mut work[..cells],
+                &mut marks[..marked],
+                h,
+            )
         }
         Verdict::Refused(_) => refused(v),
     }
 }
 
 // Behind a header that is accepted, or refused.
-fn read_by(v: Verdict, stream: &[u8], samples: &mut [u16], work: &mut [i64], h: Header) -> Page
+fn read_by(
+    v: Verdict,
+    damaged: bool,
+    stream: &[u8],
+    samples: &mut [u16],
+    work: &mut [i64],
+    marks: &mut [u8],
+    h: Header,
+) -> Page
     requires { ⌜ (v ≡ readingOf (now stream) .verdict) × (h ≡ readingOf (now stream) .header) ⌝ }
-    ensures { λ r. ⌜ Reads (now (stream .entry)) (now (samples .entry)) (now (work .entry)) r (now (samples .exit)) (now (work .exit)) ⌝ }
+    ensures { λ r. ⌜ ReadsIn damaged (now (stream .entry)) (now (samples .entry)) (now (work .entry)) (now (marks .entry)) r (now (samples .exit)) (now (work .exit)) (now (marks .exit)) ⌝ }
 {
     match v {
         Verdict::Fine => {
             let s = shapes::shape_of(h);
             let n = samples_before(s, s.nc);
-            let w = room_row(h, n, samples.len(), work.len());
-            decode_by(w, stream, samples, work, h, n)
+            let w = room_row(damaged, h, n, samples.len(), work.len(), marks.len());
+            decode_by(w, damaged, stream, samples, work, marks, h, n)
         }
         Verdict::Refused(_) => refused(v),
     }
+}
+
+// Reads a page in either mode. Every entry point is a call of this.
+fn read_in(
+    damaged: bool,
+    stream: &[u8],
+    samples: &mut [u16],
+    work: &mut [i64],
+    marks: &mut [u8],
+) -> Page
+    ensures { λ r. ⌜ ReadsIn damaged (now (stream .entry)) (now (samples .entry)) (now (work .entry)) (now (marks .entry)) r (now (samples .exit)) (now (work .exit)) (now (marks .exit)) ⌝ }
+{
+    let r = header::read(stream);
+    let v = r.verdict;
+    let h = r.header;
+    read_by(v, damaged, stream, samples, work, marks, h)
 }
 
 // Reads a page, or refuses it. Nothing is asked of the stream or of the buffers lent.
 pub fn read(stream: &[u8], samples: &mut [u16], work: &mut [i64]) -> Page
     ensures { λ r. ⌜ Reads (now (stream .entry)) (now (samples .entry)) (now (work .entry)) r (now (samples .exit)) (now (work .exit)) ⌝ }
 {
-    let r = header::read(stream);
-    let v = r.verdict;
-    let h = r.header;
-    read_by(v, stream, samples, work, h)
+    let mut none: [u8; 0] = [0; 0];
+    read_in(false, stream, samples, work, &mut none)
+}
+
+// Reads a page whose slices may be spoilt: their coefficients are lost, and each sample that depends on one is marked. Nothing is asked here either.
+pub fn read_damaged(stream: &[u8], samples: &mut [u16], work: &mut [i64], marks: &mut [u8]) -> Page
+    ensures { λ r. ⌜ ReadsDamaged (now (stream .entry)) (now (samples .entry)) (now (work .entry)) (now (marks .entry)) r (now (samples .exit)) (now (work .exit)) (now (marks .exit)) ⌝ }
+{
+    read_in(true, stream, samples, work, marks)
 }

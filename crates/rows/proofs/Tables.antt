@@ -44,6 +44,12 @@ pub each-more : (n : ℕ) (f : ℕ → List Check) {v w r : Verdict} → r ≡ t
 unfolding each
 each-more n f e p q = rw add-one (joined (each n f) (f n) e p q)
 
+-- tables of an index that are the same
+pub each-alike : (n : ℕ) (f g : ℕ → List Check) → ((k : ℕ) → k < n → f k ≡ g k) → each n f ≡ each n g
+unfolding each
+each-alike zero f g h = refl
+each-alike (suc n) f g h = λ i. each-alike n f g (λ k l. h k (omega arith)) i ++ h n (omega arith) i
+
 -- ---- nothing is broken
 
 -- a refusal is not fine

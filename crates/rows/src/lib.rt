@@ -77,6 +77,7 @@ pub enum Field {
     // cells lent
     Samples,
     Work,
+    Marks,
     // slices and precincts
     Slh,
     Lslh,

@@ -3,3 +3,4 @@ pub mod BandLaws
 pub mod Codes
 pub mod Tails
 pub mod Sites
+pub mod Alike

@@ -1,5 +1,5 @@
 -- Laws of putting texts: one after another, and what a text at the buffer's beginning leaves. Assumes nothing.
-use Prim.Native.Nat.{ℕ, zero, suc, _+_, _≤_, _<_, min}
+use Prim.Native.Nat.{ℕ, zero, suc, _+_, _^_, _≤_, _<_, min}
 use mathlib.Core.Bool.{Bool, true, false, cond}
 use mathlib.Core.List.{List, [], _∷_, _++_, append-assoc}
 use mathlib.Core.Path.{_≡_, refl, sym, ap, _∙_}
@@ -10,10 +10,14 @@ use borrow.Author.Tests.{lt-ltb, le-ltb, ne-eqb}
 use lib.Dec.{leb}
 use lib.ListN.{length, set, take, drop, getD, length-append, length-set}
 use lib.Seq.{take-suc, take-nil, set-out, set-append-seam}
-use Rattle.show.specs.Text.{ascii, decimal, gap, samplesText, rowText, Part, also, nextRow, rows, widthOf, heightOf, heading, component, components}
-use Rattle.show.specs.Buffer.{State, putByte, puts, Put, Shown}
+use Rattle.show.specs.Text.{ascii, decimal, cellsOf, gap, cellsText, rowText, Part, also, nextRow, rows, widthOf, heightOf, title, component, components}
+use Rattle.show.specs.Buffer.{State, putByte, puts, Put, Shown, Leads}
+use Rattle.show.proofs.Counted.{counted}
+use Rattle.io.specs.Counts.{Counts}
 use Rattle.reader.specs.declared.page.Page.{Page}
 use Rattle.show.specs.declared.Progress.{Progress}
+use Rattle.show.specs.declared.Plane.{Plane}
+use Rattle.show.specs.declared.Plane.the-variants.{Samples, Marks}
 
 -- ---- one byte
 
@@ -52,19 +56,25 @@ pub put-next : {o o₁ o₂ : List ℕ} {at r₁ r₂ : ℕ} (x : List ℕ) (i :
     → Put (take (i + 1) x) at o r₂ o₂
 put-next x i h p q = rw (add-one, take-suc x i 0) (put-both p q)
 
--- ---- the space before a sample
+-- ---- the planes
 
-pub put-no-gap : (x at : ℕ) (o : List ℕ) → x ≡ 0 → Put (gap x) at o at o
+-- a plane has no more cells than fit, since neither slice has
+pub few-cells : (plane : Plane) (words marks : List ℕ) → length words < 2 ^ 64 → length marks < 2 ^ 64 → length (cellsOf plane words marks) < 2 ^ 64
+few-cells Samples words marks h k = h
+few-cells Marks words marks h k = k
+
+-- the space before a sample
+pub put-no-gap : (x at : ℕ) (o : List ℕ) → x ≡ 0 → Put (gap Samples x) at o at o
 put-no-gap x at o h = rw h (put-none at o)
 
-pub put-gap : {o o′ : List ℕ} {at r : ℕ} (x : ℕ) → 0 < x → Put (ascii " ") at o r o′ → Put (gap x) at o r o′
+pub put-gap : {o o′ : List ℕ} {at r : ℕ} (x : ℕ) → 0 < x → Put (ascii " ") at o r o′ → Put (gap Samples x) at o r o′
 put-gap x h p = rw (ne-eqb x 0 (λ e. omega arith)) p
 
--- one sample more of a row
-pub put-sample : {o o₁ o₂ o₃ : List ℕ} {at r₁ r₂ r₃ : ℕ} (row : List ℕ) (x : ℕ) → Put (samplesText row x) at o r₁ o₁ → Put (gap x) r₁ o₁ r₂ o₂
-    → Put (decimal (getD row x 0)) r₂ o₂ r₃ o₃ → Put (samplesText row (x + 1)) at o r₃ o₃
-unfolding samplesText
-put-sample row x p g n = rw add-one (put-both p (put-both g n))
+-- one cell more of a row
+pub put-cell : {o o₁ o₂ o₃ : List ℕ} {at r₁ r₂ r₃ : ℕ} (plane : Plane) (cells : List ℕ) (next x : ℕ) → Put (cellsText plane cells next x) at o r₁ o₁
+    → Put (gap plane x) r₁ o₁ r₂ o₂ → Put (decimal (getD cells (next + x) 0)) r₂ o₂ r₃ o₃ → Put (cellsText plane cells next (x + 1)) at o r₃ o₃
+unfolding cellsText
+put-cell plane cells next x p g n = rw add-one (put-both p (put-both g n))
 
 -- ---- parts
 
@@ -77,38 +87,39 @@ shown-also f a b =
     let c = rw (a .next-is) at b in
     record { next-is = c .next-is; put = put-both (a .put) (c .put) }
 
--- a row, where there are so many samples
-pub row-shown : {o o′ : List ℕ} {at r : ℕ} (samples : List ℕ) (width next : ℕ) → leb (next + width) (length samples) ≡ true
-    → Put (rowText (take width (drop next samples))) at o r o′ → Shown (nextRow samples width next) at o (record { at = r; next = next + width }) o′
-row-shown samples width next h p = rw h (record { next-is = refl; put = p })
+module _ (plane : Plane) (cells : List ℕ) where
+  -- a row, where there are so many cells
+  pub row-shown : {o o′ : List ℕ} {at r : ℕ} (width next : ℕ) → leb (next + width) (length cells) ≡ true
+      → Put (rowText plane cells next width) at o r o′ → Shown (nextRow plane cells width next) at o (record { at = r; next = next + width }) o′
+  row-shown width next h p = rw h (record { next-is = refl; put = p })
 
-pub row-left : (samples : List ℕ) (width : ℕ) (p : Progress) (o : List ℕ) → leb (p .next + width) (length samples) ≡ false
-    → Shown (nextRow samples width (p .next)) (p .at) o p o
-row-left samples width p o h = rw h (shown-none p o)
+  pub row-left : (width : ℕ) (p : Progress) (o : List ℕ) → leb (p .next + width) (length cells) ≡ false
+      → Shown (nextRow plane cells width (p .next)) (p .at) o p o
+  row-left width p o h = rw h (shown-none p o)
 
--- one row more
-pub shown-row : {o o₁ o₂ : List ℕ} {at : ℕ} {r₁ r₂ : Progress} (samples : List ℕ) (width next y : ℕ) → Shown (rows samples width next y) at o r₁ o₁
-    → Shown (nextRow samples width (r₁ .next)) (r₁ .at) o₁ r₂ o₂ → Shown (rows samples width next (y + 1)) at o r₂ o₂
-unfolding rows
-shown-row samples width next y a b = rw add-one (shown-also (nextRow samples width) a b)
+  -- one row more
+  pub shown-row : {o o₁ o₂ : List ℕ} {at : ℕ} {r₁ r₂ : Progress} (width next y : ℕ) → Shown (rows plane cells width next y) at o r₁ o₁
+      → Shown (nextRow plane cells width (r₁ .next)) (r₁ .at) o₁ r₂ o₂ → Shown (rows plane cells width next (y + 1)) at o r₂ o₂
+  unfolding rows
+  shown-row width next y a b = rw add-one (shown-also (nextRow plane cells width) a b)
 
-module _ (p : Page) (samples : List ℕ) where
+module _ (p : Page) (plane : Plane) (cells : List ℕ) where
   -- a component that the page has not
-  pub no-component : (i : ℕ) (q : Progress) (o : List ℕ) → p .components ≤ i → Shown (component p samples i (q .next)) (q .at) o q o
+  pub no-component : (i : ℕ) (q : Progress) (o : List ℕ) → p .components ≤ i → Shown (component p plane cells i (q .next)) (q .at) o q o
   no-component i q o h = rw (le-ltb i (p .components) h) (shown-none q o)
 
-  -- one that it has: its heading and its rows
-  pub one-component : {o o₁ o₂ : List ℕ} {at r : ℕ} {q : Progress} (i next : ℕ) → i < p .components → Put (heading p i) at o r o₁
-      → Shown (rows samples (widthOf p i) next (heightOf p i)) r o₁ q o₂ → Shown (component p samples i next) at o q o₂
+  -- one that it has: its title and its rows
+  pub one-component : {o o₁ o₂ : List ℕ} {at r : ℕ} {q : Progress} (i next : ℕ) → i < p .components → Put (title p plane i) at o r o₁
+      → Shown (rows plane cells (widthOf p i) next (heightOf p i)) r o₁ q o₂ → Shown (component p plane cells i next) at o q o₂
   one-component {o} {o₁} {at = at} {r} i next h a b =
-      let top : Shown (heading p i, next) at o (record { at = r; next = next }) o₁ = record { next-is = refl; put = a } in
-      rw (lt-ltb i (p .components) h) (shown-also (λ n. rows samples (widthOf p i) n (heightOf p i)) top b)
+      let top : Shown (title p plane i, next) at o (record { at = r; next = next }) o₁ = record { next-is = refl; put = a } in
+      rw (lt-ltb i (p .components) h) (shown-also (λ n. rows plane cells (widthOf p i) n (heightOf p i)) top b)
 
   -- one component more
-  pub shown-component : {o o₁ o₂ : List ℕ} {at : ℕ} {r₁ r₂ : Progress} (i : ℕ) → Shown (components p samples i) at o r₁ o₁
-      → Shown (component p samples i (r₁ .next)) (r₁ .at) o₁ r₂ o₂ → Shown (components p samples (i + 1)) at o r₂ o₂
+  pub shown-component : {o o₁ o₂ : List ℕ} {at : ℕ} {r₁ r₂ : Progress} (i : ℕ) → Shown (components p plane cells i) at o r₁ o₁
+      → Shown (component p plane cells i (r₁ .next)) (r₁ .at) o₁ r₂ o₂ → Shown (components p plane cells (i + 1)) at o r₂ o₂
   unfolding components
-  shown-component i a b = rw add-one (shown-also (component p samples i) a b)
+  shown-component i a b = rw add-one (shown-also (component p plane cells i) a b)
 
 -- ---- from the beginning
 
@@ -152,3 +163,9 @@ put-first {t} {o} {r = r} p =
     let e = p .state ∙ puts-behind t [] o in
     let count : r ≡ min (length t) (length o) = (λ i. e i .0) ∙ omega arith in
     (omega (arith, min-le-right (length t) (length o), put-length p), count, λ i. e i .1)
+
+-- a text that is put at the beginning leads the buffer, and is counted
+pub put-leads : {t o o′ : List ℕ} {r : ℕ} → Put t 0 o r o′ → Counts r o′ × Leads t o r o′
+put-leads p =
+    let first = put-first p in
+    (counted _ _ (first .0), record { count = first .1; text = first .2 })

@@ -5,7 +5,7 @@ use mathlib.Core.Path.{_≡_}
 use Prim.Native.Nat.{ℕ, _+_, _≤_, min}
 use lib.Dec.{ltb}
 use lib.ListN.{length, set, take, drop}
-use Rattle.show.specs.Text.{Part, pageText}
+use Rattle.show.specs.Text.{Part, pageText, damagedText}
 use Rattle.show.specs.declared.Progress.{Progress}
 use Rattle.reader.specs.declared.page.Page.{Page}
 
@@ -24,12 +24,18 @@ puts (b ∷ t) s = puts t (putByte b s)
 pub record Put (text : List ℕ) (at : ℕ) (o : List ℕ) (r : ℕ) (o′ : List ℕ) : Type 0 where
   pub state : _≡_ {A = State} (r, o′) (puts text (at, o))
 
--- the same of a part that uses up samples
+-- the same of a part that uses up cells
 pub record Shown (part : Part) (at : ℕ) (o : List ℕ) (r : Progress) (o′ : List ℕ) : Type 0 where
   pub next-is : r .next ≡ part .1
   pub put : Put (part .0) at o (r .at) o′
 
--- the whole text at the buffer's beginning: r bytes of it, as many as there is room for, and the rest of the buffer as it was
-pub record PageText (p : Page) (samples o : List ℕ) (r : ℕ) (o′ : List ℕ) : Type 0 where
-  pub count : r ≡ min (length (pageText p samples)) (length o)
-  pub text : o′ ≡ take (length o) (pageText p samples) ++ drop (length (pageText p samples)) o
+-- a whole text at the buffer's beginning: r bytes of it, as many as there is room for, and the rest of the buffer as it was
+pub record Leads (whole o : List ℕ) (r : ℕ) (o′ : List ℕ) : Type 0 where
+  pub count : r ≡ min (length whole) (length o)
+  pub text : o′ ≡ take (length o) whole ++ drop (length whole) o
+
+abbrev pub PageText : Page → List ℕ → List ℕ → ℕ → List ℕ → Type 0
+PageText p samples = Leads (pageText p samples)
+
+abbrev pub DamagedText : Page → List ℕ → List ℕ → List ℕ → ℕ → List ℕ → Type 0
+DamagedText p samples marks = Leads (damagedText p samples marks)

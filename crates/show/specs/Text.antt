@@ -1,13 +1,16 @@
--- The text of a page as document 01 says: the answer and its place; then, for each component in order, a heading and one line of samples for each row.
+-- The text of a page as document 01 says: the answer and its place; then, for each component in order, a heading and one line of samples for each row. Of a
+-- page that was read in spite of damage (request C-15) then, for each component in order, a line 'marks I' and one line of marks for each row.
 use mathlib.Core.Bool.{Bool, cond}
 use mathlib.Core.List.{List, [], _∷_, _++_}
 use Prim.Native.Char.{code}
 use Prim.Native.Nat.{ℕ, zero, suc, _+_, _/_, _%_}
 use Prim.Native.String.{String, [] as nothing, _∷_ as _then_}
 use lib.Dec.{ltb, leb, eqb}
-use lib.ListN.{length, getD, take, drop}
+use lib.ListN.{length, getD}
 use Rattle.io.specs.Digits.{glyph}
 use Rattle.reader.specs.declared.page.Page.{Page}
+use Rattle.show.specs.declared.Plane.{Plane}
+use Rattle.show.specs.declared.Plane.the-variants.{Samples, Marks}
 
 -- ---- letters and digits, in ASCII
 
@@ -27,22 +30,21 @@ decimal n = digitsOf 20 n
 abbrev pub field : List ℕ → ℕ → List ℕ
 field name n = name ++ decimal n
 
--- ---- a row of samples, 'separated by single spaces'
+-- ---- the planes of a page: samples, and marks
 
-abbrev pub gap : ℕ → List ℕ
-gap x = cond (eqb x 0) [] (ascii " ")
+-- the cells of a plane, of `words` and `marks` that are lent
+abbrev pub cellsOf : Plane → List ℕ → List ℕ → List ℕ
+cellsOf Samples words marks = words
+cellsOf Marks words marks = marks
 
--- its first x samples
-unfoldable pub samplesText : List ℕ → ℕ → List ℕ
-samplesText row zero = []
-samplesText row (suc x) = samplesText row x ++ (gap x ++ decimal (getD row x 0))
+-- what stands before cell x of a row: samples are 'separated by single spaces', marks are 'digits without spaces'
+abbrev pub gap : Plane → ℕ → List ℕ
+gap Samples x = cond (eqb x 0) [] (ascii " ")
+gap Marks x = []
 
-abbrev pub rowText : List ℕ → List ℕ
-rowText row = samplesText row (length row) ++ ascii "\n"
+-- ---- parts of the text that use up cells
 
--- ---- parts of the text that use up samples
-
--- a part's text, and the first sample that is left
+-- a part's text, and the first cell that is left
 abbrev pub Part : Type 0
 Part = List ℕ × ℕ
 
@@ -50,13 +52,22 @@ Part = List ℕ × ℕ
 abbrev pub also : Part → (ℕ → Part) → Part
 also p f = (p .0 ++ f (p .1) .0, f (p .1) .1)
 
--- the row of `width` samples from `next` on; none where there are not so many
-abbrev pub nextRow : List ℕ → ℕ → ℕ → Part
-nextRow samples width next = cond (leb (next + width) (length samples)) (rowText (take width (drop next samples)), next + width) ([], next)
+module _ (plane : Plane) (cells : List ℕ) where
+  -- x cells from `next` on
+  unfoldable pub cellsText : ℕ → ℕ → List ℕ
+  cellsText next zero = []
+  cellsText next (suc x) = cellsText next x ++ (gap plane x ++ decimal (getD cells (next + x) 0))
 
-unfoldable pub rows : List ℕ → ℕ → ℕ → ℕ → Part
-rows samples width next zero = ([], next)
-rows samples width next (suc y) = also (rows samples width next y) (nextRow samples width)
+  abbrev pub rowText : ℕ → ℕ → List ℕ
+  rowText next width = cellsText next width ++ ascii "\n"
+
+  -- the row of `width` cells from `next` on; none where there are not so many
+  abbrev pub nextRow : ℕ → ℕ → Part
+  nextRow width next = cond (leb (next + width) (length cells)) (rowText next width, next + width) ([], next)
+
+  unfoldable pub rows : ℕ → ℕ → ℕ → Part
+  rows width next zero = ([], next)
+  rows width next (suc y) = also (rows width next y) (nextRow width)
 
 -- ---- the page
 
@@ -81,16 +92,28 @@ module _ (p : Page) where
   abbrev pub answerLine : List ℕ
   answerLine = field (ascii "answer ") (p .answer) ++ (field (ascii " at ") (p .place) ++ ascii "\n")
 
-  module _ (samples : List ℕ) where
+  -- the line above the rows of component i
+  abbrev pub title : Plane → ℕ → List ℕ
+  title Samples i = heading i
+  title Marks i = field (ascii "marks ") i ++ ascii "\n"
+
+  module _ (plane : Plane) (cells : List ℕ) where
     -- component i, where the page has it
     abbrev pub component : ℕ → ℕ → Part
     component i next =
-        cond (ltb i (p .components)) (also (heading i, next) (λ n. rows samples (widthOf i) n (heightOf i))) ([], next)
+        cond
+        (ltb i (p .components))
+        (also (title plane i, next) (λ n. rows plane cells (widthOf i) n (heightOf i)))
+        ([], next)
 
     -- the components before i
     unfoldable pub components : ℕ → Part
     components zero = ([], 0)
     components (suc i) = also (components i) (component i)
 
-    unfoldable pub pageText : List ℕ
-    pageText = answerLine ++ components 4 .0
+  unfoldable pub pageText : List ℕ → List ℕ
+  pageText samples = answerLine ++ components Samples samples 4 .0
+
+  -- a refused page has no components, so no marks follow its answer
+  unfoldable pub damagedText : List ℕ → List ℕ → List ℕ
+  damagedText samples marks = pageText samples ++ components Marks marks 4 .0

@@ -1,13 +1,14 @@
-// The text of a page, as document 01 says: the answer, then for each component a heading and its rows of samples. The text goes into a lent buffer;
-// what does not fit is left out, so no caller has to reckon first.
+// The text of a page, as document 01 says: the answer, then for each component a heading and its rows of samples. Of a page that was read in spite of damage
+// then, in the same way, the marks. The text goes into a lent buffer; what does not fit is left out, so no caller has to reckon first.
 use reader::page::Page;
 ghost use mathlib.Core.List.{[], _∷_};
 ghost use mathlib.Core.Path.{_≡_};
-ghost use Prim.Native.Nat.{_+_, _<_};
+ghost use Prim.Native.Nat.{_+_, _<_, _≤_};
 ghost use lib.Dec.{leb};
+ghost use lib.ListN.{length, getD};
 ghost use Rattle.io.specs.Counts.{Counts};
-ghost use Rattle.show.specs.Text.{decimal, field, gap, rowText, nextRow, rows, heading, component, components};
-ghost use Rattle.show.specs.Buffer.{Put, Shown, PageText};
+ghost use Rattle.show.specs.Text.{decimal, field, cellsOf, gap, rowText, nextRow, rows, heading, title, component, components, pageText};
+ghost use Rattle.show.specs.Buffer.{Put, Shown, PageText, DamagedText};
 
 // A byte at `at`, where there is room. Answers the place behind it, as all of these do.
 fn put_byte(out: &mut [u8], at: usize, b: u8) -> usize
@@ -49,37 +50,83 @@ fn put_field(out: &mut [u8], at: usize, name: &[u8], n: u64) -> usize
     put_number(out, end, n)
 }
 
+// What stands in rows, component by component: the samples, or the marks of those that are lost.
+enum Plane {
+    Samples,
+    Marks,
+}
+
 fn wide(x: u16) -> u64
     ensures { λ r. ⌜ r ≡ x ⌝ }
 {
     x as u64
 }
 
-// The space before sample x, which the first has not.
-fn put_gap(out: &mut [u8], at: usize, x: usize) -> usize
-    ensures { λ r. ⌜ Put (gap x) at (now (out .entry)) r (now (out .exit)) ⌝ }
+fn wide_mark(x: u8) -> u64
+    ensures { λ r. ⌜ r ≡ x ⌝ }
 {
-    if x == 0 {
-        return at;
-    }
-    put_byte(out, at, b' ')
+    x as u64
 }
 
-// One row: its samples, separated by single spaces.
-fn put_row(out: &mut [u8], from: usize, row: &[u16]) -> usize
-    ensures { λ r. ⌜ Put (rowText (now (row .entry))) from (now (out .entry)) r (now (out .exit)) ⌝ }
+// How many cells a plane has. The planes go together through what follows, since a slice is of one type.
+fn size_of(plane: Plane, words: &[u16], marks: &[u8]) -> usize
+    ensures { λ r. ⌜ r ≡ length (cellsOf plane (now (words .entry)) (now (marks .entry))) ⌝ }
+{
+    match plane {
+        Plane::Samples => words.len(),
+        Plane::Marks => marks.len(),
+    }
+}
+
+fn cell(plane: Plane, words: &[u16], marks: &[u8], at: usize) -> u64
+    requires { ⌜ at < length (cellsOf plane (now words) (now marks)) ⌝ }
+    ensures { λ r. ⌜ r ≡ getD (cellsOf plane (now (words .entry)) (now (marks .entry))) at 0 ⌝ }
+{
+    match plane {
+        Plane::Samples => wide(words[at]),
+        Plane::Marks => wide_mark(marks[at]),
+    }
+}
+
+// The space before sample x, which the first has not. Marks have none.
+fn put_gap(out: &mut [u8], at: usize, plane: Plane, x: usize) -> usize
+    ensures { λ r. ⌜ Put (gap plane x) at (now (out .entry)) r (now (out .exit)) ⌝ }
+{
+    match plane {
+        Plane::Samples => {
+            if x == 0 {
+                return at;
+            }
+            put_byte(out, at, b' ')
+        }
+        Plane::Marks => at,
+    }
+}
+
+// One row: `width` cells from `next` on.
+fn put_row(
+    out: &mut [u8],
+    from: usize,
+    plane: Plane,
+    words: &[u16],
+    marks: &[u8],
+    next: usize,
+    width: usize,
+) -> usize
+    requires { ⌜ next + width ≤ length (cellsOf plane (now words) (now marks)) ⌝ }
+    ensures { λ r. ⌜ Put (rowText plane (cellsOf plane (now (words .entry)) (now (marks .entry))) next width) from (now (out .entry)) r (now (out .exit)) ⌝ }
 {
     let mut at = from;
     let mut x = 0;
-    while x < row.len() {
-        let gap = put_gap(out, at, x);
-        at = put_number(out, gap, wide(row[x]));
+    while x < width {
+        let gap = put_gap(out, at, plane, x);
+        at = put_number(out, gap, cell(plane, words, marks, next + x));
         x += 1;
     }
     put_byte(out, at, b'\n')
 }
 
-// How far the text and the samples are used up.
+// How far the text and the plane are used up.
 struct Progress {
     at: usize,
     next: usize,
@@ -97,28 +144,43 @@ fn fits(room: usize, from: usize, width: usize) -> bool
     true
 }
 
-// The row of `width` samples from `p.next` on, where there are so many.
-fn put_next_row(out: &mut [u8], p: Progress, samples: &[u16], width: usize) -> Progress
-    ensures { λ r. ⌜ Shown (nextRow (now (samples .entry)) width (p .next)) (p .at) (now (out .entry)) r (now (out .exit)) ⌝ }
+// The row of `width` cells from `p.next` on, where there are so many.
+fn put_next_row(
+    out: &mut [u8],
+    p: Progress,
+    plane: Plane,
+    words: &[u16],
+    marks: &[u8],
+    width: usize,
+) -> Progress
+    ensures { λ r. ⌜ Shown (nextRow plane (cellsOf plane (now (words .entry)) (now (marks .entry))) width (p .next)) (p .at) (now (out .entry)) r (now (out .exit)) ⌝ }
 {
     let from = p.next;
-    if fits(samples.len(), from, width) {
+    if fits(size_of(plane, words, marks), from, width) {
         let next = from + width;
         return Progress {
-            at: put_row(out, p.at, &samples[from..next]),
+            at: put_row(out, p.at, plane, words, marks, from, width),
             next,
         };
     }
     p
 }
 
-fn put_rows(out: &mut [u8], p: Progress, samples: &[u16], width: usize, height: usize) -> Progress
-    ensures { λ r. ⌜ Shown (rows (now (samples .entry)) width (p .next) height) (p .at) (now (out .entry)) r (now (out .exit)) ⌝ }
+fn put_rows(
+    out: &mut [u8],
+    p: Progress,
+    plane: Plane,
+    words: &[u16],
+    marks: &[u8],
+    width: usize,
+    height: usize,
+) -> Progress
+    ensures { λ r. ⌜ Shown (rows plane (cellsOf plane (now (words .entry)) (now (marks .entry))) width (p .next) height) (p .at) (now (out .entry)) r (now (out .exit)) ⌝ }
 {
     let mut done = p;
     let mut y = 0;
     while y < height {
-        done = put_next_row(out, done, samples, width);
+        done = put_next_row(out, done, plane, words, marks, width);
         y += 1;
     }
     done
@@ -135,31 +197,79 @@ fn put_heading(out: &mut [u8], at: usize, page: Page, i: usize) -> usize
     put_byte(out, d, b'\n')
 }
 
-// Component i, where the page has so many: its heading, and its rows.
-fn put_component(out: &mut [u8], p: Progress, samples: &[u16], page: Page, i: usize) -> Progress
+// The line above the rows of component i.
+fn put_title(out: &mut [u8], at: usize, plane: Plane, page: Page, i: usize) -> usize
     requires { ⌜ i < 4 ⌝ }
-    ensures { λ r. ⌜ Shown (component page (now (samples .entry)) i (p .next)) (p .at) (now (out .entry)) r (now (out .exit)) ⌝ }
+    ensures { λ r. ⌜ Put (title page plane i) at (now (out .entry)) r (now (out .exit)) ⌝ }
+{
+    match plane {
+        Plane::Samples => put_heading(out, at, page, i),
+        Plane::Marks => {
+            let a = put_field(out, at, b"marks ", i as u64);
+            put_byte(out, a, b'\n')
+        }
+    }
+}
+
+// Component i, where the page has so many: its title, and its rows.
+fn put_component(
+    out: &mut [u8],
+    p: Progress,
+    plane: Plane,
+    words: &[u16],
+    marks: &[u8],
+    page: Page,
+    i: usize,
+) -> Progress
+    requires { ⌜ i < 4 ⌝ }
+    ensures { λ r. ⌜ Shown (component page plane (cellsOf plane (now (words .entry)) (now (marks .entry))) i (p .next)) (p .at) (now (out .entry)) r (now (out .exit)) ⌝ }
 {
     if page.components <= i {
         return p;
     }
     let rows = Progress {
-        at: put_heading(out, p.at, page, i),
+        at: put_title(out, p.at, plane, page, i),
         next: p.next,
     };
-    put_rows(out, rows, samples, page.width[i], page.height[i])
+    put_rows(
+        out,
+        rows,
+        plane,
+        words,
+        marks,
+        page.width[i],
+        page.height[i],
+    )
 }
 
-fn put_components(out: &mut [u8], from: usize, samples: &[u16], page: Page) -> Progress
-    ensures { λ r. ⌜ Shown (components page (now (samples .entry)) 4) from (now (out .entry)) r (now (out .exit)) ⌝ }
+fn put_components(
+    out: &mut [u8],
+    from: usize,
+    plane: Plane,
+    words: &[u16],
+    marks: &[u8],
+    page: Page,
+) -> Progress
+    ensures { λ r. ⌜ Shown (components page plane (cellsOf plane (now (words .entry)) (now (marks .entry))) 4) from (now (out .entry)) r (now (out .exit)) ⌝ }
 {
     let mut done = Progress { at: from, next: 0 };
     let mut i = 0;
     while i < 4 {
-        done = put_component(out, done, samples, page, i);
+        done = put_component(out, done, plane, words, marks, page, i);
         i += 1;
     }
     done
+}
+
+// The answer, and the samples of each component.
+fn put_page(out: &mut [u8], p: Page, samples: &[u16]) -> usize
+    ensures { λ r. ⌜ Put (pageText p (now (samples .entry))) 0 (now (out .entry)) r (now (out .exit)) ⌝ }
+{
+    let a = put_field(out, 0, b"answer ", p.answer as u64);
+    let b = put_field(out, a, b" at ", p.place as u64);
+    let c = put_byte(out, b, b'\n');
+    let done = put_components(out, c, Plane::Samples, samples, b"", p);
+    done.at
 }
 
 // The text of a page and its samples, as far as there is room. Answers how many bytes that is.
@@ -167,9 +277,15 @@ pub fn page_text(p: Page, samples: &[u16], out: &mut [u8]) -> usize
     ensures { λ r. ⌜ Counts r (now (out .exit)) ⌝ }
     ensures { λ r. ⌜ PageText p (now (samples .entry)) (now (out .entry)) r (now (out .exit)) ⌝ }
 {
-    let a = put_field(out, 0, b"answer ", p.answer as u64);
-    let b = put_field(out, a, b" at ", p.place as u64);
-    let c = put_byte(out, b, b'\n');
-    let done = put_components(out, c, samples, p);
+    put_page(out, p, samples)
+}
+
+// The same, and then the marks of each component.
+pub fn damaged_text(p: Page, samples: &[u16], marks: &[u8], out: &mut [u8]) -> usize
+    ensures { λ r. ⌜ Counts r (now (out .exit)) ⌝ }
+    ensures { λ r. ⌜ DamagedText p (now (samples .entry)) (now (marks .entry)) (now (out .entry)) r (now (out .exit)) ⌝ }
+{
+    let a = put_page(out, p, samples);
+    let done = put_components(out, a, Plane::Marks, samples, marks, p);
     done.at
 }

@@ -1,34 +1,34 @@
--- What an accepted slice and an accepted stream leave: every coefficient of their bands, by the quantiser and the T of its own precinct. Assumes
--- nothing.
-use Prim.Native.Nat.{ℕ, _+_, _-_, _*_, _/_, _%_, _^_, _≤_, _<_}
+-- What an accepted slice leaves: every coefficient of its bands, by the quantiser and the T of its own precinct. It stays so behind steps that keep what other
+-- slices have left; and so an accepted stream leaves every coefficient. Assumes nothing.
+use Prim.Native.Nat.{ℕ, zero, suc, _+_, _-_, _*_, _/_, _%_, _^_, _≤_, _<_}
 use mathlib.Core.Path.{_≡_, refl, sym, ap, _∙_}
 use mathlib.Core.List.{List}
 use native.Mathlib.Nat.{div-add-mod'}
-use native.Mathlib.Decide.{decLt}
+use native.Mathlib.Decide.{ℕ-discrete, decLt}
+use native.Mathlib.Numerals.{add-one}
 use native.Mathlib.Omega.{arith}
 use lib.IntN.{ℤ}
-use lib.ListN.{length}
+use lib.ListN.{length, getD}
 use Rattle.whole.specs.Cells.{cell}
+use Rattle.loops.specs.Before.{before}
 use Rattle.loops.proofs.Before.{before-carries}
 use Rattle.rows.specs.declared.Verdict.the-variants.{Fine}
 use Rattle.layout.specs.Bands.{sx, sy, NL, dx, depth, band}
 use Rattle.layout.specs.Precincts.{Cs, Npx, Np, slices, slice-top, first-x, Member}
 use Rattle.layout.specs.Cells.{start, cell as place}
-use Rattle.layout.specs.Slots.{line-at}
 use Rattle.layout.proofs.Cells.{Exists}
 use Rattle.layout.proofs.Cover.{row-of, row-below, column-of, column-below}
 use Rattle.packets.specs.declared.Setting.{Setting}
 use Rattle.packets.specs.declared.Precinct.{Precinct}
 use Rattle.packets.specs.Ready.{Settled}
-use Rattle.packets.proofs.Addresses.{There, Addressed}
+use Rattle.packets.proofs.Addresses.{Addressed}
 use Rattle.packets.proofs.Lines.{band-below}
-use Rattle.packets.proofs.Laws.{Apart}
 use Rattle.slices.specs.Precinct.{raised}
 use Rattle.slices.specs.Slice.{State, Left, sliceHeaderBytes, rowOf, columnOf, isTop, precinctTurn, slice}
-use Rattle.slices.specs.Stream.{sliceTurn, stream}
+use Rattle.slices.specs.Stream.{stream}
 use Rattle.slices.specs.Reached.{beforePrecinct, sliceHas, sliceReads, slicePlanes, sliceIndex, beforeSlice, streamHas, streamPlanes, streamIndex}
 use Rattle.slices.proofs.SliceLaws.{row-inside, column-inside, Numbered, numbered}
-use Rattle.slices.proofs.Laws.{precinct-length, slice-length, slice-tops-length, slice-tops-up, slice-other, raised-length}
+use Rattle.slices.proofs.Laws.{FarFrom, precinct-length, slice-length, slice-tops-length, slice-tops-up, slice-other, raised-length}
 use Rattle.slices.proofs.Reaching.{slice-precinct, slice-left, stream-slice, stream-left}
 use Rattle.slices.proofs.PrecinctCoefficients.{countOf, Stored, stored-still, address, precinct-coefficients, precinct-leaves, far-coefficient, far-count}
 
@@ -90,100 +90,158 @@ module _ (s : List ℕ) (c : Setting) (settled : Settled c) {i β x y : ℕ} (h 
     pub slice-coefficients : Stored c (sliceHas s c from t n) (slicePlanes s c from t n (A .slot) (A .j) (ξ / 4)) (sliceIndex s c from t n (A .slot) (A .j) ξ) (slice s c t from .1 .1) (slice s c t from .1 .2) i β x y
     slice-coefficients = rw (slice-left s c t from fine) (in-slice (Np (c .shape) t) (omega arith) .2 k)
 
-  -- and any slice leaves it where it belongs to a precinct of another slice
-  pub slice-leaves : {p : Precinct} {M : ℕ} {index : ℤ} → Stored c p M index (from .1) (from .2) i β x y → (p .row / c .shape .hsl ≡ t → ⊥)
-      → Stored c p M index (slice s c t from .1 .1) (slice s c t from .1 .2) i β x y
-  slice-leaves {p} q other =
-      stored-still (slice s c t from .1 .1) (slice s c t from .1 .2) q
-      (still (place (c .shape) β i x y) (λ row column slot j a. far-coefficient c settled h e (q .member) a))
-      (still (countOf (c .shape) (p .column) β i x y) (λ row column slot j a. far-count c settled h e (q .member) a))
-      (slice-tops-up s c t from (band (c .shape) β i) (omega (arith, band-below (c .shape) β i h (e .type))))
-    where
-      still : (n : ℕ)
-          → ((row column slot j : ℕ) → There (c .shape) row column slot j → (p .row ≡ row → p .column ≡ column → ⊥)
-          → Apart (line-at (c .shape) row column slot j) n)
-          → cell (slice s c t from .1 .2) n ≡ cell (from .2) n
-      still n apart =
-          slice-other s c settled n t l
-          (λ row column slot j r d k u m a.
-          apart row column slot j (record { across = k; which = u; candidate = m; present = a }) (λ f v. other (ap (λ (b : ℕ). b / c .shape .hsl) f ∙ d)))
-          from
+-- ---- a step for slice g, whether it reads the slice or not
 
--- ---- a stream, whose first slice header stands at the state's place
+-- what other slices have left it keeps: the coefficients of their precincts, and the counts of their groups. No band's largest T falls
+pub record Passes (c : Setting) (g : ℕ) (from to : State) : Type 0 where
+  pub cells : length (to .2) ≡ length (from .2)
+  pub tops : length (to .1) ≡ length (from .1)
+  pub up : (b : ℕ) → b < length (from .1) → getD (from .1) b 0 ≤ getD (to .1) b 0
+  pub coefficient : {i β x y row column : ℕ} → i < c .shape .nc → Exists (c .shape) i β x y → Member (c .shape) row column β i x y → (row / c .shape .hsl ≡ g → ⊥)
+      → cell (to .2) (place (c .shape) β i x y) ≡ cell (from .2) (place (c .shape) β i x y)
+  pub count : {i β x y row column : ℕ} → i < c .shape .nc → Exists (c .shape) i β x y → Member (c .shape) row column β i x y → (row / c .shape .hsl ≡ g → ⊥)
+      → cell (to .2) (countOf (c .shape) column β i x y) ≡ cell (from .2) (countOf (c .shape) column β i x y)
 
--- and coefficient (x, y) of filter type β of component i
-module _ (s : List ℕ) (c : Setting) (settled : Settled c) (from : State) (room : start (c .shape) (c .shape .nc) ≤ length (from .2))
-    (long : NL (c .shape) ≤ length (from .1)) (fine : stream s c from .0 ≡ Fine) {i β x y : ℕ} (h : i < c .shape .nc) (e : Exists (c .shape) i β x y) where
-  -- an accepted stream leaves it where it belongs to precinct n of slice t
-  module _ (t : ℕ) (l : t < slices (c .shape)) (n : ℕ) (k : n < Np (c .shape) t)
-      (m : Member (c .shape) (rowOf s c t n) (columnOf s c t n) β i x y) where
-    -- its line, and its place there
-    abbrev lineIn : Addressed (c .shape) (rowOf s c t n) (columnOf s c t n) i β x y (x - first-x (c .shape) (columnOf s c t n) β i)
-    lineIn = address c settled h e m
+module _ (c : Setting) (settled : Settled c) where
+  -- such is a step that keeps the cells far from the slice's own lines
+  pub far-passes : (g : ℕ) (from to : State) → length (to .2) ≡ length (from .2) → length (to .1) ≡ length (from .1)
+      → ((b : ℕ) → b < length (from .1) → getD (from .1) b 0 ≤ getD (to .1) b 0) → ((n : ℕ) → FarFrom c g n → cell (to .2) n ≡ cell (from .2) n)
+      → Passes c g from to
+  far-passes g from to cells tops up far =
+      record {
+        cells = cells;
+        tops = tops;
+        up = up;
+        coefficient = λ {i} {β} {x} {y} h e m other. far (place (c .shape) β i x y)
+            (λ row column slot j r d k u l a. far-coefficient c settled h e m (record { across = k; which = u; candidate = l; present = a }) (λ f v. other (ap (λ (b : ℕ). b / c .shape .hsl) f ∙ d)));
+        count = λ {i} {β} {x} {y} {row} {column} h e m other. far (countOf (c .shape) column β i x y)
+            (λ row column slot j r d k u l a. far-count c settled h e m (record { across = k; which = u; candidate = l; present = a }) (λ f v. other (ap (λ (b : ℕ). b / c .shape .hsl) f ∙ d)));
+      }
 
-    abbrev placeIn : ℕ
-    placeIn = x - first-x (c .shape) (columnOf s c t n) β i
+  -- and so the reading of a slice, accepted or refused
+  pub slice-passes : (s : List ℕ) (t : ℕ) → t < slices (c .shape) → (from : State) → Passes c t from (slice s c t from .1)
+  slice-passes s t l from =
+      far-passes t from (slice s c t from .1) (slice-length s c settled t l from) (slice-tops-length s c t from) (slice-tops-up s c t from)
+      (λ n far. slice-other s c settled n t l far from)
 
-    abbrev InStream : ℕ → State → Type 0
-    InStream g z =
-        (length (z .2) ≡ length (from .2)) × (length (z .1) ≡ length (from .1)) × (t < g → Stored c (streamHas s c from t n) (streamPlanes s c from t n (lineIn .slot) (lineIn .j) (placeIn / 4)) (streamIndex s c from t n (lineIn .slot) (lineIn .j) placeIn) (z .1) (z .2) i β x y)
+  -- what is stored of a coefficient stays so behind the step of another slice
+  pub passes-leave : {i β x y : ℕ} → i < c .shape .nc → Exists (c .shape) i β x y → {g : ℕ} {from to : State} → Passes c g from to → NL (c .shape) ≤ length (from .1)
+      → {p : Precinct} {M : ℕ} {index : ℤ} → Stored c p M index (from .1) (from .2) i β x y → (p .row / c .shape .hsl ≡ g → ⊥) → Stored c p M index (to .1) (to .2) i β x y
+  passes-leave {i} {β} h e {to = to} pass long q other =
+      stored-still (to .1) (to .2) q (pass .coefficient h e (q .member) other) (pass .count h e (q .member) other)
+      (pass .up (band (c .shape) β i) (omega (arith, band-below (c .shape) β i h (e .type))))
 
-    slice-carries : (g : ℕ) → g < slices (c .shape) → InStream g (beforeSlice s c from g) → InStream (g + 1) (beforeSlice s c from (g + 1))
-    slice-carries g w q =
-        let r = stream-slice s c from fine g w in
-        rw (← ap (λ (z : Left). z .1) r) (
-          slice-length s c settled g w (beforeSlice s c from g) ∙ q .0,
-          slice-tops-length s c g (beforeSlice s c from g) ∙ q .1,
-          pick (ap (λ (z : Left). z .0) r) (decLt t g),
-        )
-      where
-        pick : slice s c g (beforeSlice s c from g) .0 ≡ Fine → Dec (t < g) → t < g + 1
-            → Stored c (streamHas s c from t n) (streamPlanes s c from t n (lineIn .slot) (lineIn .j) (placeIn / 4)) (streamIndex s c from t n (lineIn .slot) (lineIn .j) placeIn) (slice s c g (beforeSlice s c from g) .1 .1) (slice s c g (beforeSlice s c from g) .1 .2) i β x y
-        pick accepted (yes before) u =
-            slice-leaves s c settled h e g w (beforeSlice s c from g) (omega (arith, q .1)) (q .2 before)
-            (λ d. omega (arith, d, row-inside (c .shape) (settled .shape) t l n k .1))
-        pick accepted (no after) u =
-            let same : g ≡ t = omega arith in
-            let q′ = rw same at q in
-            rw same
-            (slice-coefficients s c settled h e t l (beforeSlice s c from t) (omega (arith, q′ .1)) (omega (arith, q′ .0)) (rw same at accepted) n k m)
+-- ---- where B.5 puts coefficient (x, y) of filter type β of component i
 
-    pub stream-precinct : Stored c (streamHas s c from t n) (streamPlanes s c from t n (lineIn .slot) (lineIn .j) (placeIn / 4)) (streamIndex s c from t n (lineIn .slot) (lineIn .j) placeIn) (stream s c from .1 .1) (stream s c from .1 .2) i β x y
-    stream-precinct =
-        let first : InStream 0 from = (refl, refl, λ u. absurd (omega arith)) in
-        rw (stream-left s c from fine) (before-carries (sliceTurn s c) from InStream (slices (c .shape)) first slice-carries .2 l)
-
-  -- and there is such a precinct: by B.5's rule it stands in this row and column
+-- in the precinct in this row and column, and so in this slice and with this number there
+module _ (c : Setting) (i β x y : ℕ) where
   abbrev row : ℕ
   row = y * sy (c .shape) i * 2 ^ depth (c .shape) β i / 2 ^ c .shape .nly
 
   abbrev column : ℕ
   column = x * sx (c .shape) i * 2 ^ dx (c .shape) β / Cs (c .shape)
 
-  abbrev slice-of : ℕ
-  slice-of = row / c .shape .hsl
+  abbrev pub ownSlice : ℕ
+  ownSlice = row / c .shape .hsl
 
-  abbrev number-of : ℕ
-  number-of = (row - slice-top (c .shape) slice-of) * Npx (c .shape) + column
+  abbrev pub ownNumber : ℕ
+  ownNumber = (row - slice-top (c .shape) ownSlice) * Npx (c .shape) + column
 
-  pub number-is : Numbered (c .shape) row column slice-of number-of
+module _ (s : List ℕ) (c : Setting) (settled : Settled c) {i β x y : ℕ} (h : i < c .shape .nc) (e : Exists (c .shape) i β x y) where
+  pub number-is : Numbered (c .shape) (row c i β x y) (column c i β x y) (ownSlice c i β x y) (ownNumber c i β x y)
   number-is =
       let down = row-below (c .shape) (settled .shape) β i h y (e .row) in
       let across = column-below (c .shape) (settled .shape) β i (e .type) h x (e .column) in
       numbered (c .shape) (settled .shape) (omega (arith, down, row-of (c .shape) (settled .shape) β i h y))
       (omega (arith, across, column-of (c .shape) (settled .shape) β i (e .type) h x))
 
-  pub member-there : Member (c .shape) (rowOf s c slice-of number-of) (columnOf s c slice-of number-of) β i x y
+  pub member-there : Member (c .shape) (rowOf s c (ownSlice c i β x y) (ownNumber c i β x y)) (columnOf s c (ownSlice c i β x y) (ownNumber c i β x y)) β i x y
   member-there = record { down = sym (number-is .down); across = sym (number-is .across) }
 
-  -- the line of that precinct in which it stands, and its place there
-  abbrev pub lineWith : Addressed (c .shape) (rowOf s c slice-of number-of) (columnOf s c slice-of number-of) i β x y (x - first-x (c .shape) (columnOf s c slice-of number-of) β i)
-  lineWith = address c settled h e member-there
+  -- its place in a line of that precinct, and the line
+  abbrev pub ownPlace : ℕ
+  ownPlace = x - first-x (c .shape) (columnOf s c (ownSlice c i β x y) (ownNumber c i β x y)) β i
 
-  abbrev pub placeWith : ℕ
-  placeWith = x - first-x (c .shape) (columnOf s c slice-of number-of) β i
+  abbrev pub ownLine : Addressed (c .shape) (rowOf s c (ownSlice c i β x y) (ownNumber c i β x y)) (columnOf s c (ownSlice c i β x y) (ownNumber c i β x y)) i β x y ownPlace
+  ownLine = address c settled h e member-there
 
-  pub stream-coefficients : Stored c (streamHas s c from slice-of number-of)
-      (streamPlanes s c from slice-of number-of (lineWith .slot) (lineWith .j) (placeWith / 4))
-      (streamIndex s c from slice-of number-of (lineWith .slot) (lineWith .j) placeWith) (stream s c from .1 .1) (stream s c from .1 .2) i β x y
-  stream-coefficients = stream-precinct slice-of (number-is .slice) number-of (number-is .precinct) member-there
+-- ---- states one after the other, by one step for each slice
+
+-- the step of slice t reads it, and the others keep what it has left
+pub record ReadsOne (s : List ℕ) (c : Setting) (z : ℕ → State) (t : ℕ) : Type 0 where
+  pub own : slice s c t (z t) ≡ (Fine, z (t + 1))
+  pub others : (g : ℕ) → g < slices (c .shape) → (g ≡ t → ⊥) → Passes c g (z g) (z (g + 1))
+
+-- and coefficient (x, y) of filter type β of component i
+module _ (s : List ℕ) (c : Setting) (settled : Settled c) (z : ℕ → State) (room : start (c .shape) (c .shape .nc) ≤ length (z 0 .2))
+    (long : NL (c .shape) ≤ length (z 0 .1)) {i β x y : ℕ} (h : i < c .shape .nc) (e : Exists (c .shape) i β x y) where
+  -- they leave the coefficient where it belongs to precinct n of slice t
+  module _ (t : ℕ) (l : t < slices (c .shape)) (reads : ReadsOne s c z t) (n : ℕ) (k : n < Np (c .shape) t)
+      (m : Member (c .shape) (rowOf s c t n) (columnOf s c t n) β i x y) where
+    -- its line, and its place there
+    abbrev lineHere : Addressed (c .shape) (rowOf s c t n) (columnOf s c t n) i β x y (x - first-x (c .shape) (columnOf s c t n) β i)
+    lineHere = address c settled h e m
+
+    abbrev placeHere : ℕ
+    placeHere = x - first-x (c .shape) (columnOf s c t n) β i
+
+    abbrev LeftBy : ℕ → Type 0
+    LeftBy g =
+        Stored c (sliceHas s c (z t) t n) (slicePlanes s c (z t) t n (lineHere .slot) (lineHere .j) (placeHere / 4)) (sliceIndex s c (z t) t n (lineHere .slot) (lineHere .j) placeHere) (z g .1) (z g .2) i β x y
+
+    abbrev InStates : ℕ → Type 0
+    InStates g = (length (z g .2) ≡ length (z 0 .2)) × (length (z g .1) ≡ length (z 0 .1)) × (t < g → LeftBy g)
+
+    -- the step of slice t passes too, for the others
+    each-passes : (g : ℕ) → g < slices (c .shape) → Dec (g ≡ t) → Passes c g (z g) (z (g + 1))
+    each-passes g w (yes same) =
+        let passed = slice-passes c settled s t l (z t) in
+        rw same (rw (ap (λ (r : Left). r .1) (reads .own)) at passed)
+    each-passes g w (no other) = reads .others g w other
+
+    step-carries : (g : ℕ) → g < slices (c .shape) → InStates g → InStates (g + 1)
+    step-carries g w q =
+        let passed = each-passes g w (ℕ-discrete g t) in
+        (passed .cells ∙ q .0, passed .tops ∙ q .1, pick passed (decLt t g))
+      where
+        pick : Passes c g (z g) (z (g + 1)) → Dec (t < g) → t < g + 1 → LeftBy (g + 1)
+        pick passed (yes before) u =
+            passes-leave c settled h e passed (omega (arith, q .1)) (q .2 before) (λ d. omega (arith, d, row-inside (c .shape) (settled .shape) t l n k .1))
+        pick passed (no after) u =
+            let same : g ≡ t = omega arith in
+            let q′ = rw same at q in
+            let left =
+            slice-coefficients s c settled h e t l (z t) (omega (arith, q′ .1)) (omega (arith, q′ .0)) (ap (λ (r : Left). r .0) (reads .own)) n k m in
+            rw same (rw (ap (λ (r : Left). r .1) (reads .own)) at left)
+
+    in-states : (g : ℕ) → g ≤ slices (c .shape) → InStates g
+    in-states zero b = (refl, refl, λ u. absurd (omega arith))
+    in-states (suc g) b = rw (← add-one g) (step-carries g (omega arith) (in-states g (omega arith)))
+
+    pub states-precinct : LeftBy (slices (c .shape))
+    states-precinct = in-states (slices (c .shape)) (omega arith) .2 l
+
+  -- and there is such a precinct
+  pub states-coefficients :
+      let t = ownSlice c i β x y in
+      let n = ownNumber c i β x y in
+      let line = ownLine s c settled h e in
+      let ξ = ownPlace s c settled h e in
+      ReadsOne s c z t
+      → Stored c (sliceHas s c (z t) t n) (slicePlanes s c (z t) t n (line .slot) (line .j) (ξ / 4)) (sliceIndex s c (z t) t n (line .slot) (line .j) ξ)
+      (z (slices (c .shape)) .1) (z (slices (c .shape)) .2) i β x y
+  states-coefficients reads =
+      let own = number-is s c settled h e in
+      states-precinct (ownSlice c i β x y) (own .slice) reads (ownNumber c i β x y) (own .precinct) (member-there s c settled h e)
+
+-- ---- a stream, whose first slice header stands at the state's place
+
+-- an accepted one reads each slice
+pub stream-reads : (s : List ℕ) (c : Setting) → Settled c → (from : State) → stream s c from .0 ≡ Fine → (t : ℕ) → t < slices (c .shape) → ReadsOne s c (beforeSlice s c from) t
+stream-reads s c settled from fine t l =
+    record {
+      own = stream-slice s c from fine t l;
+      others = λ g w other.
+          let passed = slice-passes c settled s g w (beforeSlice s c from g) in
+          rw (ap (λ (r : Left). r .1) (stream-slice s c from fine g w)) at passed;
+    }

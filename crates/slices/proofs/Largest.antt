@@ -22,7 +22,7 @@ module _ (s : List ℕ) (c : Setting) (b m : ℕ) where
   Most g z = getD (z .1) b 0 ≤ m
 
   -- of slice t, whose header stands at the state's place
-  slice-most : (t : ℕ) (from : State) → slice s c t from .0 ≡ Fine
+  pub slice-most : (t : ℕ) (from : State) → slice s c t from .0 ≡ Fine
       → ((n : ℕ) → n < Np (c .shape) t → b < NL (c .shape) → holds c (sliceHas s c from t n) b ≡ true → T c (sliceHas s c from t n) b ≤ m)
       → getD (from .1) b 0 ≤ m → getD (slice s c t from .1 .1) b 0 ≤ m
   slice-most t from fine own h =

@@ -59,7 +59,7 @@ module _ (s : List ℕ) (c : Setting) (P : List ℤ → Type 0) where
         by (Refused k) = h
 
   -- the packets of the precincts of slice t
-  abbrev PacketsKeep : ℕ → Type 0
+  abbrev pub PacketsKeep : ℕ → Type 0
   PacketsKeep t =
       (row column at slot place : ℕ) (raws : List ℕ) (cells : List ℤ) → row < Npy (c .shape) → row / c .shape .hsl ≡ t → column < Npx (c .shape) → slot < slots (c .shape)
       → P cells → P (packet s c (precinctAt s c row column at) slot place raws cells .1)
@@ -81,14 +81,18 @@ module _ (s : List ℕ) (c : Setting) (P : List ℤ → Type 0) where
         (λ slot place raws cells. kept (rowOf s c t n) (columnOf s c t n) (x .0) slot place raws cells (r .0) (r .1) (column-inside (c .shape) built t l n k))
         (isTop s c t n) (x .2) h)
 
+    pub precincts-keeps : (x : State) → P (x .2) → P (precincts s c t x .1 .2)
+    unfolding precincts
+    precincts-keeps x h =
+        run-keeps (λ (y : State). P (y .2)) (λ (r : Left). P (r .1 .2)) (precinctTurn s c t) (λ y. (Fine, y)) (Np (c .shape) t) (λ y p. p)
+        (λ n y k p. precinct-turn-keeps n y k p) (Np (c .shape) t) 0 x (omega arith) h
+
     pub slice-keeps : (x : State) → P (x .2) → P (slice s c t x .1 .2)
-    unfolding slice precincts
+    unfolding slice
     slice-keeps x h = by (first (sliceChecks s t (x .0)))
       where
         by : (v : Verdict) → P (precinctsBy s c t v x .1 .2)
-        by Fine =
-            run-keeps (λ (y : State). P (y .2)) (λ (r : Left). P (r .1 .2)) (precinctTurn s c t) (λ y. (Fine, y)) (Np (c .shape) t) (λ y p. p)
-            (λ n y k p. precinct-turn-keeps n y k p) (Np (c .shape) t) 0 (x .0 + sliceHeaderBytes, x .1, x .2) (omega arith) h
+        by Fine = precincts-keeps (x .0 + sliceHeaderBytes, x .1, x .2) h
         by (Refused k) = h
 
   sliced-keeps : (y : Left) → P (y .1 .2) → KeptHere (sliced y)
@@ -109,8 +113,14 @@ precinct-length s c row column at top cells =
     precinct-keeps s c (λ z. length z ≡ length cells) row column at
     (λ slot place raws z l e. packet-length s c (precinctAt s c row column at) slot place raws z ∙ e) top cells refl
 
+-- cell n belongs to no line in slice t's rows of precincts
+abbrev pub FarFrom : Setting → ℕ → ℕ → Type 0
+FarFrom c t n =
+    (row column slot j : ℕ) → row < Npy (c .shape) → row / c .shape .hsl ≡ t → column < Npx (c .shape) → slot < slots (c .shape) → j < candidates (c .shape) slot
+    → line-at (c .shape) row column slot j .present ≡ true → Apart (line-at (c .shape) row column slot j) n
+
 module _ (s : List ℕ) (c : Setting) (settled : Settled c) where
-  length-kept : (n t : ℕ) → PacketsKeep s c (λ z. length z ≡ n) t
+  pub length-kept : (n t : ℕ) → PacketsKeep s c (λ z. length z ≡ n) t
   length-kept n t row column at slot place raws cells r q k j e = packet-length s c (precinctAt s c row column at) slot place raws cells ∙ e
 
   pub slice-length : (t : ℕ) → t < slices (c .shape) → (x : State) → length (slice s c t x .1 .2) ≡ length (x .2)
@@ -119,21 +129,22 @@ module _ (s : List ℕ) (c : Setting) (settled : Settled c) where
   pub stream-length : (x : State) → length (stream s c x .1 .2) ≡ length (x .2)
   stream-length x = stream-keeps s c (λ z. length z ≡ length (x .2)) (settled .shape) (length-kept (length (x .2))) x refl
 
-  module _ (n : ℕ) where
-    -- a slice changes the cells of the lines in its own rows of precincts alone
-    pub slice-other : (t : ℕ) → t < slices (c .shape)
-        → ((row column slot j : ℕ) → row < Npy (c .shape) → row / c .shape .hsl ≡ t → column < Npx (c .shape) → slot < slots (c .shape) → j < candidates (c .shape) slot
-        → line-at (c .shape) row column slot j .present ≡ true → Apart (line-at (c .shape) row column slot j) n)
-        → (x : State) → cell (slice s c t x .1 .2) n ≡ cell (x .2) n
-    slice-other t l apart x =
-        slice-keeps s c (λ z. cell z n ≡ cell (x .2) n) (settled .shape) t l
-        (λ row column at slot place raws cells r q k j e. packet-other s c (precinctAt s c row column at) slot place raws cells n (λ i m p. apart row column slot i r q k j m p) ∙ e)
-        x refl
+  -- a slice changes the cells of the lines in its own rows of precincts alone
+  module _ (n t : ℕ) (l : t < slices (c .shape)) (apart : FarFrom c t n) where
+    other-kept : (z : ℤ) → PacketsKeep s c (λ cells. cell cells n ≡ z) t
+    other-kept z row column at slot place raws cells r q k j e =
+        packet-other s c (precinctAt s c row column at) slot place raws cells n (λ i m p. apart row column slot i r q k j m p) ∙ e
+
+    pub precincts-other : (x : State) → cell (precincts s c t x .1 .2) n ≡ cell (x .2) n
+    precincts-other x = precincts-keeps s c (λ z. cell z n ≡ cell (x .2) n) (settled .shape) t l (other-kept (cell (x .2) n)) x refl
+
+    pub slice-other : (x : State) → cell (slice s c t x .1 .2) n ≡ cell (x .2) n
+    slice-other x = slice-keeps s c (λ z. cell z n ≡ cell (x .2) n) (settled .shape) t l (other-kept (cell (x .2) n)) x refl
 
 -- ---- the size of what the cells hold
 
 module _ (s : List ℕ) (c : Setting) (settled : Settled c) {B : ℕ} (most : 2 ^ (31 + c .fq) ≤ B) where
-  bounded-kept : (t : ℕ) → PacketsKeep s c (Bounded B) t
+  pub bounded-kept : (t : ℕ) → PacketsKeep s c (Bounded B) t
   bounded-kept t row column at slot place raws cells r q k j h = packet-bounded s c (precinctAt s c row column at) slot place raws cells settled most h
 
   pub stream-bounded : (x : State) → Bounded B (x .2) → Bounded B (stream s c x .1 .2)
@@ -141,16 +152,17 @@ module _ (s : List ℕ) (c : Setting) (settled : Settled c) {B : ℕ} (most : 2 
 
 -- ---- where an accepted reading ends
 
+-- the end marker is the last thing of the stream
+pub ended-ends : (s : List ℕ) (y : State) → ended s y .0 ≡ Fine → ended s y .1 .0 ≡ length s
+ended-ends s y e =
+    let h = held (endChecks s (y .0)) e in
+    omega (arith, h .0 .least, h .1 .1 .0 .most)
+
 pub stream-ends : (s : List ℕ) (c : Setting) (x : State) → stream s c x .0 ≡ Fine → stream s c x .1 .0 ≡ length s
 unfolding stream sliceTurn
 stream-ends s c x =
-    run-keeps (λ (y : State). Unit {0}) (λ (r : Left). r .0 ≡ Fine → r .1 .0 ≡ length s) (sliceTurn s c) (ended s) (slices (c .shape)) (λ y p e. at-end y e) (λ t y l p. refuses (slice s c t y)) (slices (c .shape)) 0 x (omega arith) tt
+    run-keeps (λ (y : State). Unit {0}) (λ (r : Left). r .0 ≡ Fine → r .1 .0 ≡ length s) (sliceTurn s c) (ended s) (slices (c .shape)) (λ y p. ended-ends s y) (λ t y l p. refuses (slice s c t y)) (slices (c .shape)) 0 x (omega arith) tt
   where
-    at-end : (y : State) → first (endChecks s (y .0)) ≡ Fine → y .0 + 2 ≡ length s
-    at-end y e =
-        let h = held (endChecks s (y .0)) e in
-        omega (arith, h .0 .least, h .1 .1 .0 .most)
-
     refuses : (l : Left) → Kept (λ (y : State). Unit {0}) (λ (r : Left). r .0 ≡ Fine → r .1 .0 ≡ length s) (sliced l)
     refuses (Fine, z) = tt
     refuses (Refused k, z) = λ e. clash e
@@ -243,14 +255,18 @@ module _ (s : List ℕ) (c : Setting) (P : List ℕ → Type 0) (kept : (p : Pre
   placed-tops t n x (Fine, cells) h = kept (precinctAt s c (rowOf s c t n) (columnOf s c t n) (x .0)) (x .1) h
   placed-tops t n x (Refused k, cells) h = h
 
+  pub precincts-tops : (t : ℕ) (x : State) → P (x .1) → P (precincts s c t x .1 .1)
+  unfolding precincts precinctTurn
+  precincts-tops t x h =
+      run-keeps (λ (y : State). P (y .1)) (λ (r : Left). P (r .1 .1)) (precinctTurn s c t) (λ y. (Fine, y)) (Np (c .shape) t) (λ y p. p)
+      (λ n y k p. placed-tops t n y (precinct s c (rowOf s c t n) (columnOf s c t n) (y .0) (isTop s c t n) (y .2)) p) (Np (c .shape) t) 0 x (omega arith) h
+
   pub slice-tops : (t : ℕ) (x : State) → P (x .1) → P (slice s c t x .1 .1)
-  unfolding slice precincts precinctTurn
+  unfolding slice
   slice-tops t x h = by (first (sliceChecks s t (x .0)))
     where
       by : (v : Verdict) → P (precinctsBy s c t v x .1 .1)
-      by Fine =
-          run-keeps (λ (y : State). P (y .1)) (λ (r : Left). P (r .1 .1)) (precinctTurn s c t) (λ y. (Fine, y)) (Np (c .shape) t) (λ y p. p)
-          (λ n y k p. placed-tops t n y (precinct s c (rowOf s c t n) (columnOf s c t n) (y .0) (isTop s c t n) (y .2)) p) (Np (c .shape) t) 0 (x .0 + sliceHeaderBytes, x .1, x .2) (omega arith) h
+      by Fine = precincts-tops t (x .0 + sliceHeaderBytes, x .1, x .2) h
       by (Refused k) = h
 
   sliced-tops : (y : Left) → P (y .1 .1) → TopsHere (sliced y)

@@ -3,11 +3,11 @@ use Prim.Native.Nat.{ℕ, _+_, _<_}
 use mathlib.Core.Path.{_≡_, refl, sym, ap, _∙_}
 use mathlib.Core.Bool.{Bool, true, false, cond}
 use mathlib.Core.List.{List}
-use native.Mathlib.Omega.{arith}
 use lib.IntN.{ℤ}
 use lib.ListN.{set}
 use Rattle.loops.specs.Run.{Turn, go, stop}
 use Rattle.loops.proofs.Before.{Turns, run-turns}
+use Rattle.loops.proofs.Follows.{go-stop}
 use Rattle.rows.specs.Rows.{first}
 use Rattle.rows.specs.declared.Check.{Check}
 use Rattle.rows.specs.declared.Verdict.{Verdict}
@@ -24,9 +24,6 @@ use Rattle.slices.specs.Reached.{beforePacket, packetReads, rawFlag, bef
 use Rattle.slices.proofs.PrecinctLaws.{clash}
 
 -- ---- what stops is refused
-
-goes-not : {S R : Type 0} {z : S} {r : R} → _≡_ {A = Turn S R} (go z) (stop r) → ⊥
-goes-not e = let z : _≡_ {A = ℕ} 0 1 = cc in omega arith
 
 stop-refuses : {S X : Type 0} {k : Check} {z : X} {r : Verdict × X} → _≡_ {A = Turn S (Verdict × X)} (stop (Refused k, z)) (stop r) → r .0 ≡ Fine → ⊥
 stop-refuses {X = X} {k} {z} {r} e f =
@@ -45,23 +42,25 @@ pub record PacketFollows (s : List ℕ) (c : Setting) (row column at : ℕ) (cel
         packetReads s c row column at cells k .1,
       )
 
-module _ (s : List ℕ) (c : Setting) (row column at : ℕ) (top : Bool) (cells : List ℤ) (fine : precinct s c row column at top cells .0 ≡ Fine) where
-  abbrev EachPacket : Type 0
-  EachPacket =
-      Turns (packetTurn s c row column at) (body s c row column at, noFlags s c row column at, cells)
-      (λ x. (first (restChecks s c row column at (x .0)), x .2)) (slots (c .shape))
-
+module _ (s : List ℕ) (c : Setting) (row column at : ℕ) where
   packed-stops : (k place : ℕ) (raws : List ℕ) (y r : Verdict × List ℤ) → packed s c row column at k place raws y ≡ stop r → r .0 ≡ Fine → ⊥
-  packed-stops k place raws (Fine, l) r e f = goes-not e
+  packed-stops k place raws (Fine, l) r e f = go-stop e
   packed-stops k place raws (Refused q, l) r e f = stop-refuses e f
 
-  packet-stops : (k : ℕ) (x : Packing s c row column at) (r : Verdict × List ℤ) → packetTurn s c row column at k x ≡ stop r → r .0 ≡ Fine → ⊥
+  -- a slot that stops refuses
+  pub packet-stops : (k : ℕ) (x : Packing s c row column at) (r : Verdict × List ℤ) → packetTurn s c row column at k x ≡ stop r → r .0 ≡ Fine → ⊥
   unfolding packetTurn
   packet-stops k x r = by (anyLine c (precinctAt s c row column at) k (candidates (c .shape) k))
     where
       by : (b : Bool) → cond b (packed s c row column at k (x .0) (x .1) (packet s c (precinctAt s c row column at) k (x .0) (x .1) (x .2))) (go x) ≡ stop r → r .0 ≡ Fine → ⊥
       by true e f = packed-stops k (x .0) (x .1) (packet s c (precinctAt s c row column at) k (x .0) (x .1) (x .2)) r e f
-      by false e f = goes-not e
+      by false e f = go-stop e
+
+module _ (s : List ℕ) (c : Setting) (row column at : ℕ) (top : Bool) (cells : List ℤ) (fine : precinct s c row column at top cells .0 ≡ Fine) where
+  abbrev EachPacket : Type 0
+  EachPacket =
+      Turns (packetTurn s c row column at) (body s c row column at, noFlags s c row column at, cells)
+      (λ x. (first (restChecks s c row column at (x .0)), x .2)) (slots (c .shape))
 
   packet-turns : EachPacket × (precinct s c row column at top cells .1 ≡ beforePacket s c row column at cells (slots (c .shape)) .2)
   unfolding precinct packets
@@ -72,7 +71,7 @@ module _ (s : List ℕ) (c : Setting) (row column at : ℕ) (top : Bool) (cells 
       by Fine e =
           let q =
           run-turns (packetTurn s c row column at) (body s c row column at, noFlags s c row column at, cells) (λ (r : Verdict × List ℤ). r .0 ≡ Fine)
-          (λ x. (first (restChecks s c row column at (x .0)), x .2)) (slots (c .shape)) (λ g r. packet-stops g (beforePacket s c row column at cells g) r) e in
+          (λ x. (first (restChecks s c row column at (x .0)), x .2)) (slots (c .shape)) (λ g r. packet-stops s c row column at g (beforePacket s c row column at cells g) r) e in
           (q, ap (λ (r : Verdict × List ℤ). r .1) (q .ends))
       by (Refused k) e = clash e
 
@@ -96,7 +95,7 @@ module _ (s : List ℕ) (c : Setting) (row column at : ℕ) (top : Bool) (cells 
           let flags = set (beforePacket s c row column at cells k .1) k (rawFlag s c row column at cells k) in
           let q : (place, flags, l′) ≡ beforePacket s c row column at cells (k + 1) = cc in
           record { accepted = ap (λ (z : Verdict × List ℤ). z .0) r; next = sym q ∙ (λ i. (place, flags, sym r i .1)) }
-      by (Refused q, l′) r e = absurd (goes-not (sym e))
+      by (Refused q, l′) r e = go-stop (sym e)
 
   -- and one without
   pub precinct-empty : (k : ℕ) → k < slots (c .shape) → anyLine c (precinctAt s c row column at) k (candidates (c .shape) k) ≡ false
@@ -118,17 +117,18 @@ pub record Follows (s : List ℕ) (c : Setting) (x : State) (t n : ℕ) : Type 0
   pub next : beforePrecinct s c x t (n + 1)
       ≡ (sliceHas s c x t n .end, raised c (sliceHas s c x t n) (NL (c .shape)) (beforePrecinct s c x t n .1), sliceReads s c x t n .1)
 
+-- one that stops refuses
+pub precinct-stops : (s : List ℕ) (c : Setting) (t n : ℕ) (y : State) (r : Left) → precinctTurn s c t n y ≡ stop r → r .0 ≡ Fine → ⊥
+unfolding precinctTurn
+precinct-stops s c t n y r = by (precinct s c (rowOf s c t n) (columnOf s c t n) (y .0) (isTop s c t n) (y .2))
+  where
+    by : (z : Verdict × List ℤ) → placed s c t n y z ≡ stop r → r .0 ≡ Fine → ⊥
+    by (Fine, l) e f = go-stop e
+    by (Refused k, l) e f = stop-refuses e f
+
 module _ (s : List ℕ) (c : Setting) (t : ℕ) (x : State) (fine : slice s c t x .0 ≡ Fine) where
   abbrev EachPrecinct : Type 0
   EachPrecinct = Turns (precinctTurn s c t) (x .0 + sliceHeaderBytes, x .1, x .2) (λ y. (Fine, y)) (Np (c .shape) t)
-
-  precinct-stops : (n : ℕ) (y : State) (r : Left) → precinctTurn s c t n y ≡ stop r → r .0 ≡ Fine → ⊥
-  unfolding precinctTurn
-  precinct-stops n y r = by (precinct s c (rowOf s c t n) (columnOf s c t n) (y .0) (isTop s c t n) (y .2))
-    where
-      by : (z : Verdict × List ℤ) → placed s c t n y z ≡ stop r → r .0 ≡ Fine → ⊥
-      by (Fine, l) e f = goes-not e
-      by (Refused k, l) e f = stop-refuses e f
 
   precinct-turns : EachPrecinct × (slice s c t x .1 ≡ beforePrecinct s c x t (Np (c .shape) t))
   unfolding slice precincts
@@ -138,7 +138,7 @@ module _ (s : List ℕ) (c : Setting) (t : ℕ) (x : State) (fine : slice s c t 
       by Fine e =
           let q =
           run-turns (precinctTurn s c t) (x .0 + sliceHeaderBytes, x .1, x .2) (λ (r : Left). r .0 ≡ Fine) (λ y. (Fine, y)) (Np (c .shape) t)
-          (λ g r. precinct-stops g (beforePrecinct s c x t g) r) e in
+          (λ g r. precinct-stops s c t g (beforePrecinct s c x t g) r) e in
           (q, ap (λ (r : Left). r .1) (q .ends))
       by (Refused k) e = clash e
 
@@ -157,13 +157,13 @@ module _ (s : List ℕ) (c : Setting) (t : ℕ) (x : State) (fine : slice s c t 
           let tops = raised c p (NL (c .shape)) (beforePrecinct s c x t n .1) in
           let q : (p .end, tops, l′) ≡ beforePrecinct s c x t (n + 1) = cc in
           record { accepted = ap (λ (z : Verdict × List ℤ). z .0) r; next = sym q ∙ (λ i. (p .end, tops, sym r i .1)) }
-      by (Refused k, l′) r e = absurd (goes-not (sym e))
+      by (Refused k, l′) r e = go-stop (sym e)
 
 -- ---- the slices of an accepted stream
 
 module _ (s : List ℕ) (c : Setting) (x : State) (fine : stream s c x .0 ≡ Fine) where
   slice-stops : (y r : Left) → sliced y ≡ stop r → r .0 ≡ Fine → ⊥
-  slice-stops (Fine, z) r e f = goes-not e
+  slice-stops (Fine, z) r e f = go-stop e
   slice-stops (Refused k, z) r e f = stop-refuses e f
 
   slice-turns : Turns (sliceTurn s c) x (ended s) (slices (c .shape))
@@ -186,4 +186,4 @@ module _ (s : List ℕ) (c : Setting) (x : State) (fine : stream s c x .0 ≡ Fi
       by (Fine, y) e =
           let q : y ≡ beforeSlice s c x (t + 1) = cc in
           λ i. (Fine, q i)
-      by (Refused k, y) e = absurd (goes-not (sym e))
+      by (Refused k, y) e = go-stop (sym e)

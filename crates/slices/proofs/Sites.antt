@@ -116,7 +116,7 @@ module _ (s : List ℕ) (c : Setting) (row column at : ℕ) (h : at ≤ length s
 -- ---- a slice
 
 -- its header: the marker is followed by a length, and that by the slice index
-slice-header-sited : (s : List ℕ) (t at : ℕ) → at ≤ length s → Sited (length s) (sliceChecks s t at)
+pub slice-header-sited : (s : List ℕ) (t at : ℕ) → at ≤ length s → Sited (length s) (sliceChecks s t at)
 slice-header-sited s t at h =
     (h, λ cut. (h, λ marker. (h, λ built. (omega arith, λ short. (omega arith, λ long. (omega arith, λ size. (omega arith, λ index. tt)))))))
 
@@ -160,7 +160,7 @@ module _ (s : List ℕ) (c : Setting) where
   sliced-sited (Refused k, x) h = h
 
   -- the place behind the end marker may be the stream's end
-  end-sited : (at : ℕ) → at ≤ length s → Sited (length s) (endChecks s at)
+  pub end-sited : (at : ℕ) → at ≤ length s → Sited (length s) (endChecks s at)
   end-sited at h = (h, λ cut. (h, λ marker. (omega arith, λ tail. tt)))
 
   -- a stream whose first slice header begins in it

@@ -6,3 +6,4 @@ pub mod Reached
 pub mod Predicted
 pub mod Steps
 pub mod Table
+pub mod Walk

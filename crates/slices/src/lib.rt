@@ -1,10 +1,10 @@
-// From the first slice header to the end of the stream: slices and their precincts.
+// Slices and their precincts, the walk by declared lengths, and the end marker. The loop over the slices stands in `damage`.
 mod precincts;
 mod tops;
+pub mod walk;
 
 use layout::precincts::precinct_columns;
 use layout::precincts::precincts_in_slice;
-use layout::precincts::slice_count;
 use packets::Precinct;
 use packets::Setting;
 use picture::marker::Marker;
@@ -25,7 +25,7 @@ ghost use Rattle.rows.specs.declared.Verdict.the-variants.{Fine};
 ghost use Rattle.layout.specs.Precincts.{Npy, Np, slices};
 ghost use Rattle.packets.specs.Ready.{Settled};
 ghost use Rattle.slices.specs.Slice.{sliceHeaderBytes, sliceChecks, precinctTurn, precincts, precinctsBy, slice};
-ghost use Rattle.slices.specs.Stream.{endChecks, stream};
+ghost use Rattle.slices.specs.Stream.{endChecks};
 ghost use Rattle.slices.specs.Steps.{Lent, behind, Turned, Read};
 
 // Where a reading stands: the verdict, the next place, and the bands' largest T so far. The work cells stand beside it.
@@ -36,7 +36,7 @@ pub struct Reading {
 }
 
 // The header of slice t.
-fn slice_row(s: &[u8], t: usize, at: usize) -> Verdict
+pub fn slice_row(s: &[u8], t: usize, at: usize) -> Verdict
     requires { ⌜ at < 2 ^ 32 ⌝ }
     ensures { λ r. ⌜ r ≡ first (sliceChecks (now (s .entry)) t at) ⌝ }
 {
@@ -114,7 +114,7 @@ fn precinct_turn(
 }
 
 // The precincts of slice t.
-fn all_precincts(
+pub fn all_precincts(
     s: &[u8],
     cells: &mut [i64],
     c: Setting,
@@ -177,7 +177,14 @@ fn precincts_by(
 }
 
 // Slice t, whose header stands at `at`. `tops` are the bands' largest T of the slices before.
-fn slice(s: &[u8], cells: &mut [i64], c: Setting, t: usize, at: usize, tops: [usize; 40]) -> Reading
+pub fn slice(
+    s: &[u8],
+    cells: &mut [i64],
+    c: Setting,
+    t: usize,
+    at: usize,
+    tops: [usize; 40],
+) -> Reading
     requires { ⌜ Lent (now s) c at (length (now cells)) × (t < slices (c .shape)) ⌝ }
     ensures { λ r. ⌜ Read (now (s .entry)) (slice (now (s .entry)) c t (at, tops, now (cells .entry))) r (now (cells .exit)) ⌝ }
 {
@@ -186,7 +193,7 @@ fn slice(s: &[u8], cells: &mut [i64], c: Setting, t: usize, at: usize, tops: [us
 }
 
 // The end marker, and nothing behind it.
-fn end_row(s: &[u8], at: usize) -> Verdict
+pub fn end_row(s: &[u8], at: usize) -> Verdict
     requires { ⌜ at < 2 ^ 32 ⌝ }
     ensures { λ r. ⌜ r ≡ first (endChecks (now (s .entry)) at) ⌝ }
 {
@@ -210,39 +217,4 @@ fn end_row(s: &[u8], at: usize) -> Verdict
         HOLDS,
         HOLDS,
     ])
-}
-
-// All slices from the first, whose header stands at `at`, and the end of the stream.
-pub fn stream(s: &[u8], cells: &mut [i64], c: Setting, at: usize, tops: [usize; 40]) -> Reading
-    requires { ⌜ Lent (now s) c at (length (now cells)) ⌝ }
-    ensures { λ r. ⌜ stream (now (s .entry)) c (at, tops, now (cells .entry)) ≡ (r .verdict, (r .at, r .tops, now (cells .exit))) ⌝ }
-{
-    let shape = c.shape;
-    let count = slice_count(shape);
-    let mut place = at;
-    let mut most = tops;
-    let mut t = 0;
-    while t < count {
-        let r = slice(s, cells, c, t, place, most);
-        let v = r.verdict;
-        place = r.at;
-        let raised = r.tops;
-        most = raised;
-        match v {
-            Verdict::Fine => {}
-            Verdict::Refused(_) => {
-                return Reading {
-                    verdict: v,
-                    at: place,
-                    tops: most,
-                };
-            }
-        }
-        t += 1;
-    }
-    Reading {
-        verdict: end_row(s, place),
-        at: place + 2,
-        tops: most,
-    }
 }

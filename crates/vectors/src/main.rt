@@ -1,7 +1,9 @@
 // Reads the stream NAME.jxs of each name that is given, and compares the page's text with NAME.txt, byte by byte, and where NAME.caption is there, what the
-// record says of a caption with that. Prints the names of those that differ, how many agreed, and how many had a caption's yes or no stored.
+// record says of a caption with that. Names behind the word --damaged are of damaged pages: their text has the marks too. Prints the names of those that differ,
+// how many agreed, and how many had a caption's yes or no stored.
 use libc::STDOUT_FILENO;
-ghost use Prim.Native.Nat.{_≤_};
+ghost use mathlib.Core.Path.{_≡_};
+ghost use Prim.Native.Nat.{_+_, _≤_};
 ghost use Rattle.io.specs.Counts.{Counts};
 
 fn text(bytes: &[u8]) {
@@ -43,18 +45,42 @@ struct Said {
     caption: bool,
 }
 
-fn page_of(name: &[u8], out: &mut [u8]) -> Said
+fn plain_page(stream: &[u8], out: &mut [u8]) -> Said
     ensures { λ r. ⌜ Counts (r .size) (now (out .exit)) ⌝ }
 {
-    let mut stream = io::large_buffer();
-    let n = read_file(name, b".jxs", true, &mut stream);
     let mut samples = [0u16; 2048];
     let mut work = [0i64; 4096];
-    let page = reader::read(&stream[..n], &mut samples, &mut work);
+    let page = reader::read(stream, &mut samples, &mut work);
     let caption = page.caption;
     Said {
         size: show::page_text(page, &samples, out),
         caption,
+    }
+}
+
+fn damaged_page(stream: &[u8], out: &mut [u8]) -> Said
+    ensures { λ r. ⌜ Counts (r .size) (now (out .exit)) ⌝ }
+{
+    let mut samples = [0u16; 2048];
+    let mut work = [0i64; 4096];
+    let mut marks = [0u8; 2048];
+    let page = reader::read_damaged(stream, &mut samples, &mut work, &mut marks);
+    let caption = page.caption;
+    Said {
+        size: show::damaged_text(page, &samples, &marks, out),
+        caption,
+    }
+}
+
+fn page_of(name: &[u8], damaged: bool, out: &mut [u8]) -> Said
+    ensures { λ r. ⌜ Counts (r .size) (now (out .exit)) ⌝ }
+{
+    let mut stream = io::large_buffer();
+    let n = read_file(name, b".jxs", true, &mut stream);
+    if damaged {
+        damaged_page(&stream[..n], out)
+    } else {
+        plain_page(&stream[..n], out)
     }
 }
 
@@ -103,36 +129,53 @@ fn compared_caption(name: &[u8], caption: bool, stored: &[u8]) -> bool {
     }
 }
 
-// Of one stream: 1 where what is said of it is what is stored, and 1 where a caption's yes or no is.
+// Of one word: 1 where it is the word --damaged. Of one stream: 1 where what is said of it is what is stored, and 1 where a caption's yes or no is.
 struct Outcome {
+    switched: usize,
     agreed: usize,
     told: usize,
 }
 
-fn outcome_of(i: usize) -> Outcome
-    ensures { λ r. ⌜ (r .agreed ≤ 1) × (r .told ≤ 1) ⌝ }
+fn outcome_of(name: &[u8], damaged: bool) -> Outcome
+    ensures { λ r. ⌜ (r .switched ≡ 0) × (r .agreed ≤ 1) × (r .told ≤ 1) ⌝ }
 {
-    let mut name = io::buffer();
-    let n = os::arg(i, &mut name);
     let mut page = io::large_buffer();
-    let said = page_of(&name[..n], &mut page);
+    let said = page_of(name, damaged, &mut page);
     let size = said.size;
     let mut stored = io::large_buffer();
-    let wanted = read_file(&name[..n], b".txt", true, &mut stored);
-    let same = compared(&name[..n], &page[..size], &stored[..wanted]);
+    let wanted = read_file(name, b".txt", true, &mut stored);
+    let same = compared(name, &page[..size], &stored[..wanted]);
     let mut line = io::buffer();
-    let told = read_file(&name[..n], b".caption", false, &mut line);
+    let told = read_file(name, b".caption", false, &mut line);
     if told == 0 {
         return Outcome {
+            switched: 0,
             agreed: one_if(same),
             told: 0,
         };
     }
-    let yes = compared_caption(&name[..n], said.caption, &line[..told]);
+    let yes = compared_caption(name, said.caption, &line[..told]);
     Outcome {
+        switched: 0,
         agreed: one_if(same & yes),
         told: 1,
     }
+}
+
+fn word_of(i: usize, damaged: bool) -> Outcome
+    ensures { λ r. ⌜ r .switched + r .agreed ≤ 1 ⌝ }
+    ensures { λ r. ⌜ r .told ≤ 1 ⌝ }
+{
+    let mut word = io::buffer();
+    let n = os::arg(i, &mut word);
+    if check::same(&word[..n], b"--damaged") {
+        return Outcome {
+            switched: 1,
+            agreed: 0,
+            told: 0,
+        };
+    }
+    outcome_of(&word[..n], damaged)
 }
 
 fn one_if(b: bool) -> usize
@@ -152,14 +195,16 @@ fn print_tally(agreed: usize, differing: usize, told: usize) {
 
 fn main() {
     let count = os::arg_count();
+    let mut switches = 0;
     let mut all = 0;
     let mut told = 0;
     let mut i = 1;
     while i < count {
-        let o = outcome_of(i);
+        let o = word_of(i, 0 < switches);
+        switches += o.switched;
         all += o.agreed;
         told += o.told;
         i += 1;
     }
-    print_tally(all, i - 1 - all, told);
+    print_tally(all, i - 1 - switches - all, told);
 }

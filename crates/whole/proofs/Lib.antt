@@ -4,3 +4,4 @@ pub mod Machine
 pub mod Within
 pub mod Passes
 pub mod Lists
+pub mod Same

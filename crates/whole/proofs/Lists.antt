@@ -5,7 +5,7 @@ use mathlib.Core.Path.{_≡_, refl, sym, _∙_}
 use native.Mathlib.Decide.{decLt}
 use native.Mathlib.Numerals.{add-one}
 use native.Mathlib.Omega.{arith}
-use lib.ListN.{length, take, getD, set, length-set, length-append, List·getD-append, List·getD-eq-default}
+use lib.ListN.{length, take, getD, set, replicate, length-set, length-append, length-replicate, getD-replicate, List·getD-append, List·getD-eq-default}
 use lib.Seq.{take-all, take-suc-set, getD-append-seam, ext-getD}
 use Rattle.whole.specs.Cells.{listed}
 
@@ -61,3 +61,12 @@ pub listed-same : {A : Type 0} (n : ℕ) (f g : ℕ → A) → ((b : ℕ) → b 
 unfolding listed
 listed-same zero f g same = refl
 listed-same (suc n) f g same = λ i. listed-same n f g (λ b h. same b (omega arith)) i ++ (same n (omega arith) i ∷ [])
+
+-- ---- one element throughout, and past the end too
+
+pub replicated : {A : Type 0} (n b : ℕ) (v : A) → getD (replicate n v) b v ≡ v
+replicated n b v = by (decLt b n)
+  where
+    by : Dec (b < n) → getD (replicate n v) b v ≡ v
+    by (yes l) = getD-replicate n b v v l
+    by (no l) = List·getD-eq-default (replicate n v) v (omega (arith, length-replicate n v))

@@ -50,6 +50,18 @@ module _ {A : Type 0} where
   mapAt-map f [] = refl
   mapAt-map f (x ∷ xs) = ap (λ (l : List A). f x ∷ l) (mapAt-map f xs)
 
+  -- what a pass leaves at each place
+  pub mapAt-length : (g : ℕ → A → A) (xs : List A) → length (mapAt g xs) ≡ length xs
+  unfolding mapAt
+  mapAt-length g [] = refl
+  mapAt-length g (x ∷ xs) = ap suc (mapAt-length (λ (n : ℕ). g (suc n)) xs)
+
+  pub mapAt-at : (g : ℕ → A → A) (xs : List A) (n : ℕ) (d : A) → n < length xs → getD (mapAt g xs) n d ≡ g n (getD xs n d)
+  unfolding mapAt
+  mapAt-at g [] n d h = absurd (not-suc-le-zero h)
+  mapAt-at g (x ∷ xs) zero d h = refl
+  mapAt-at g (x ∷ xs) (suc n) d h = mapAt-at (λ (n : ℕ). g (suc n)) xs n d (le-of-suc-le-suc h)
+
 zero-ne-suc : {n : ℕ} → 0 ≡ suc n → ⊥
 zero-ne-suc e = omega arith
 

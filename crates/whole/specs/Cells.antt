@@ -3,6 +3,7 @@ use mathlib.Core.List.{List, [], _∷_, _++_}
 use Prim.Native.Nat.{ℕ, zero, suc, _≤_, _<_}
 use lib.IntN.{ℤ, pos, natAbs}
 use lib.ListN.{length, getD}
+use mathlib.Core.Path.{_≡_}
 
 -- the cell at a place
 abbrev pub cell : List ℤ → ℕ → ℤ
@@ -11,6 +12,11 @@ cell l j = getD l j (pos 0)
 -- every cell is at most B in size
 pub record Bounded (B : ℕ) (l : List ℤ) : Type 0 where
   pub most : (j : ℕ) → j < length l → natAbs (cell l j) ≤ B
+
+-- two lists of one length that agree at the places of a kind
+pub record Same (P : ℕ → Type 0) (a b : List ℤ) : Type 0 where
+  pub long : length a ≡ length b
+  pub cells : (n : ℕ) → P n → cell a n ≡ cell b n
 
 -- g at each place and its element: what a pass in place leaves
 unfoldable pub mapAt {ℓ} : {A : Type ℓ} → (ℕ → A → A) → List A → List A

@@ -1,30 +1,34 @@
 -- `planes::all_values` meets its contract. The invariant: the first i components are transformed, and no other cell has changed. Assumes nothing.
 use Prim.Native.Nat.{_-_, _≤_}
 use native.Mathlib.Omega.{arith}
-use Rattle.planes.specs.Values.{transformed}
-use Rattle.planes.specs.Places.{coefficientsIn}
-use Rattle.planes.proofs.Transforms.{HoldingFirst, first-none, first-ready, first-turn, first-all}
+use Rattle.planes.specs.Numbers.{filteredOf}
+use Rattle.planes.proofs.Transforms.{HoldingFirst, first-none, first-ready, first-numbers, first-turn, first-all}
 use Rattle.planes.proofs.all_values.Statement.{statement}
 use Rattle.planes.proofs.all_values.Tie as tie
 
 abbrev Inv-loop : tie.InvT-loop
-Inv-loop work₀ s n i₀ work i = (i ≤ s .nc) × HoldingFirst s i (transformed s (coefficientsIn s work₀)) work₀ work
+Inv-loop work₀ kind s n i₀ work i = (i ≤ s .nc) × HoldingFirst s i (filteredOf kind s work₀) work₀ work
 
 abbrev μ-loop : tie.MeasureT-loop
-μ-loop work₀ s n i₀ work i = n - i
+μ-loop work₀ kind s n i₀ work i = n - i
 
 loop-holds : tie.Need-loop-holds Inv-loop μ-loop
 loop-holds c = (omega arith, first-none)
 
 component-values-requires : tie.Need-component-values-requires Inv-loop μ-loop
 component-values-requires c κs =
-    let l = c .before .before .loop in
-    first-ready (c .before .before .before .pre) (l .inv .1) (c .before .loop-test .taken)
+    let l = c .before .before .loop .inv .1 in
+    let s = c .before .before .before in
+    let h = c .before .loop-test .taken in
+    (first-ready (s .args .kind) (s .pre .0) l h, λ n. first-numbers (s .args .kind) (s .pre .0) l h (s .pre .1 n))
 
 loop-again : tie.Need-loop-again Inv-loop μ-loop
 loop-again c =
     let a = c .before .before .before in
-    (omega (arith, a .loop-test .taken), first-turn (a .before .before .pre) (a .before .loop .inv .1) (a .loop-test .taken) (c .before .component-values .ensures))
+    let s = a .before .before in (
+      omega (arith, a .loop-test .taken),
+      first-turn (s .args .kind) (s .pre .0) (a .before .loop .inv .1) (a .loop-test .taken) (c .before .component-values .ensures),
+    )
 
 same-length : tie.Need-same-length Inv-loop μ-loop
 same-length c = c .before .loop .inv .1 .same

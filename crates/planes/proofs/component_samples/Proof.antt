@@ -1,8 +1,9 @@
 -- `planes::component_samples` meets its contract. Assumes nothing.
 use native.Mathlib.Omega.{arith}
+use Rattle.output.specs.Linear.{sample}
 use Rattle.layout.proofs.Cells.{starts-up}
 use Rattle.planes.proofs.Stretches.{stretch-fits}
-use Rattle.planes.proofs.Planes.{samples-taken, samples-given}
+use Rattle.planes.proofs.Planes.{samples-taken, plane-given}
 use borrow.Author.Needs.{needs}
 use Rattle.planes.proofs.component_samples.Statement.{statement}
 use Rattle.planes.proofs.component_samples.Tie as tie
@@ -32,8 +33,8 @@ returns : tie.Need-returns
 returns c =
     let d = c .before .before .before .before .before in
     let s = d .before .before .before in
-    samples-given (s .pre .0) (s .args .out .now) (s .pre .2) (d .before .samples-before .ensures .0) (d .area-of .ensures .0)
-    (s .args .bw) (s .args .b) (c .before .before .linear-output .ensures)
+    plane-given (s .pre .0) (s .args .out .now) (s .pre .2) (d .before .samples-before .ensures .0) (d .area-of .ensures .0)
+    (sample (s .args .bw) (s .args .b)) (c .before .before .linear-output .ensures)
 
 pub component-samples-spec : {M : Type 1} → statement M
 component-samples-spec =

@@ -1,19 +1,16 @@
--- `planes::values` meets its contract: Annex F is given what Annex E leaves. Assumes nothing.
-use Rattle.planes.proofs.Laws.{transformed-small, held-ready, held-coloured}
+-- `planes::values` is the way of kind 0, samples. Assumes nothing.
+use mathlib.Core.Path.{refl}
 use borrow.Author.Needs.{needs}
+use Rattle.planes.specs.Numbers.{filteredOf, colouredOf}
 use Rattle.planes.proofs.values.Statement.{statement}
 use Rattle.planes.proofs.values.Tie as tie
 
-colours-requires : tie.Need-colours-requires
-colours-requires c κs =
-    let s = c .before .before .before .before in
-    (held-ready (s .pre .0) (transformed-small (s .pre .0)) (c .before .before .all-values .ensures), s .pre .1)
+both-requires : tie.Need-both-requires
+both-requires c κs = let s = c .before in (s .pre .0, λ n. absurd (n refl), s .pre .1)
 
 returns : tie.Need-returns
-returns c =
-    let a = c .before .before .before .before in
-    let s = a .before .before in
-    held-coloured (s .pre .0 .built) (s .pre .1) (a .all-values .ensures) (c .before .colours .ensures)
+unfolding filteredOf colouredOf
+returns c = c .before .both .ensures
 
 pub values-spec : {M : Type 1} → statement M
-values-spec = tie.close (tie.spec (λ c κs. search needs) colours-requires (λ c. search needs) returns)
+values-spec = tie.close (tie.spec both-requires (λ c. search needs) returns)

@@ -1,12 +1,18 @@
 -- `reader::read` meets its contract. Assumes nothing.
+use Rattle.reader.proofs.Leaving.{reads-plain}
 use borrow.Author.Needs.{needs}
 use Rattle.reader.proofs.read.Statement.{statement}
 use Rattle.reader.proofs.read.Tie as tie
 
-read-by-requires : tie.Need-read-by-requires
-read-by-requires c κs =
-    let r = c .before .before .before .read .ensures in
-    (λ i. r i .verdict, λ i. r i .header)
+returns : tie.Need-returns
+returns c = reads-plain (c .before .before .before .before .read-in .ensures)
 
 pub read-spec : {M : Type 1} → statement M
-read-spec = tie.close (tie.spec (λ c κs. search needs) read-by-requires (λ c. search needs) (λ c. search needs) (λ c. search needs))
+read-spec =
+    tie.close
+    (tie.spec
+    (λ c. search needs)
+    (λ c κs. search needs)
+    (λ c. search needs)
+    (λ c. search needs)
+    returns)

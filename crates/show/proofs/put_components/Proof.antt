@@ -2,7 +2,7 @@
 use Prim.Native.Nat.{_≤_, _-_}
 use mathlib.Core.Path.{_≡_}
 use native.Mathlib.Omega.{arith}
-use Rattle.show.specs.Text.{components}
+use Rattle.show.specs.Text.{cellsOf, components}
 use Rattle.show.specs.Buffer.{Shown}
 use Rattle.show.proofs.Puts.{put-length, shown-none, shown-component}
 use borrow.Author.Needs.{needs}
@@ -10,10 +10,11 @@ use Rattle.show.proofs.put_components.Statement.{statement}
 use Rattle.show.proofs.put_components.Tie as tie
 
 abbrev Inv-loop : tie.InvT-loop
-Inv-loop out₀ from samples page done₀ i₀ out done i = (i ≤ 4) × Shown (components page samples i) from out₀ done out
+Inv-loop out₀ from plane words marks page done₀ i₀ out done i =
+    (i ≤ 4) × Shown (components page plane (cellsOf plane words marks) i) from out₀ done out
 
 abbrev μ-loop : tie.MeasureT-loop
-μ-loop out₀ from samples page done₀ i₀ out done i = 4 - i
+μ-loop out₀ from plane words marks page done₀ i₀ out done i = 4 - i
 
 loop-holds : tie.Need-loop-holds Inv-loop μ-loop
 unfolding components
@@ -22,8 +23,16 @@ loop-holds c = (omega arith, shown-none _ _)
 loop-again : tie.Need-loop-again Inv-loop μ-loop
 loop-again c =
     let l = c .before .before .before .before .before in
-    let a = l .before .before .before .args in
-    (omega arith, shown-component (a .page) (a .samples .now) (l .loop .i) (l .loop .inv .1) (c .before .before .put-component .ensures))
+    let a = l .before .before .before .before .args in (
+      omega arith,
+      shown-component
+          (a .page)
+          (a .plane)
+          (cellsOf (a .plane) (a .words .now) (a .marks .now))
+          (l .loop .i)
+          (l .loop .inv .1)
+          (c .before .before .put-component .ensures),
+    )
 
 same-length : tie.Need-same-length Inv-loop μ-loop
 same-length c = put-length (c .before .loop .inv .1 .put)

@@ -5,10 +5,10 @@ use Rattle.vectors.proofs.main.Statement.{statement}
 use Rattle.vectors.proofs.main.Tie as tie
 
 abbrev Inv-loop : tie.InvT-loop
-Inv-loop count all₀ told₀ i₀ all told i = (all + 1 ≤ i) × (told + 1 ≤ i)
+Inv-loop count switches₀ all₀ told₀ i₀ switches all told i = (switches + all + 1 ≤ i) × (told + 1 ≤ i)
 
 abbrev μ-loop : tie.MeasureT-loop
-μ-loop count all₀ told₀ i₀ all told i = count - i
+μ-loop count switches₀ all₀ told₀ i₀ switches all told i = count - i
 
 pub main-spec : {M : Type 1} → statement M
 main-spec =
@@ -19,6 +19,8 @@ main-spec =
     (λ c κs. search needs)
     (λ c. search needs)
     (λ c κs. search needs)
+    (λ c. search needs)
+    (λ c. search needs)
     (λ c. search needs)
     (λ c. search needs)
     (λ c. search needs)

@@ -1,0 +1,37 @@
+use Prim.Native.Nat.{_+_}
+use mathlib.Core.Path.{_∙_}
+use mathlib.Core.List.{[], _∷_}
+use native.Mathlib.Omega.{arith}
+use denote.Ref.{now}
+use Rattle.rows.specs.Rows.{check, ample, first}
+use Rattle.rows.specs.declared.Row.the-variants.{Cut, Length}
+use Rattle.rows.specs.declared.Field.the-variants.{Lprc}
+use Rattle.slices.proofs.WalkLaws.{walk-turned}
+use borrow.Author.Needs.{needs}
+use Rattle.slices.proofs.walk.walk_turn.Statement.{statement}
+use Rattle.slices.proofs.walk.walk_turn.Tie as tie
+
+returns : tie.Need-returns
+returns c =
+    let a = c .before .before .before .before .before .before .args in
+    let hb = c .before .before .before .before .bytes-of-header .ensures .0 in
+    let l = c .before .before .before .u24-at .ensures .value in
+    let there = c .before .before .left .ensures in
+    let r = c .step .ensures in
+    walk-turned (now (a .s)) (a .c) (a .at) (a .n)
+    (c .before .first .ensures
+    ∙ (λ i. first (check Cut (a .at) Lprc (there i) 3 ample ∷ check Length (a .at) Lprc (there i) (hb i + l i) ample ∷ [])))
+    (omega (arith, hb, l)) (r .0) (r .1) (r .2)
+
+pub walk-turn-spec : {M : Type 1} → statement M
+walk-turn-spec =
+    tie.close
+    (tie.spec
+    (λ c κs. search needs)
+    (λ c κs. search needs)
+    (λ c. search needs)
+    (λ c κs. search needs)
+    (λ c κs. search needs)
+    (λ c. search needs)
+    (λ c κs. search needs)
+    returns)

@@ -1,0 +1,41 @@
+//! What the page program prints (document 01), and what it prints of marks (document 02, C-15).
+
+use super::{Marks, Page, Refusal};
+use std::io::{self, Write};
+
+pub fn refusal(out: &mut impl Write, refusal: Refusal) -> io::Result<()> {
+    writeln!(out, "answer {} at {}", refusal.row as u8, refusal.place)
+}
+
+/// A page that was read from `length` bytes.
+pub fn page(out: &mut impl Write, page: &Page, length: usize) -> io::Result<()> {
+    success(out, length)?;
+    for (i, component) in page.components.iter().enumerate() {
+        let (width, height, distance) = (component.width, component.height, component.distance);
+        writeln!(out, "component {i} width {width} height {height} distance {distance}")?;
+        for row in component.samples.chunks(width) {
+            write!(out, "{}", row[0])?;
+            for sample in &row[1..] {
+                write!(out, " {sample}")?;
+            }
+            writeln!(out)?;
+        }
+    }
+    Ok(())
+}
+
+pub fn success(out: &mut impl Write, length: usize) -> io::Result<()> {
+    writeln!(out, "answer 0 at {length}")
+}
+
+/// The marks of a page, digits without spaces.
+pub fn marks(out: &mut impl Write, page: &Page, marks: &Marks) -> io::Result<()> {
+    for (i, (component, marks)) in page.components.iter().zip(marks).enumerate() {
+        writeln!(out, "marks {i}")?;
+        for row in marks.chunks(component.width) {
+            let digits: String = row.iter().map(|&lost| if lost { '1' } else { '0' }).collect();
+            writeln!(out, "{digits}")?;
+        }
+    }
+    Ok(())
+}
