@@ -32,9 +32,9 @@ use Rattle.planes.proofs.Laws.{Every}
 use Rattle.planes.proofs.Marking.{shield}
 use Rattle.reader.specs.declared.page.Page.{Page}
 use Rattle.reader.specs.Settings.{settingOf, depthOf}
-use Rattle.reader.specs.Decoding.{samplesFrom, decoded, coefficients}
+use Rattle.reader.specs.Decoding.{samplesFrom, decoded, coefficients, begun}
 use Rattle.reader.specs.Page.{headerOf, Reads}
-use Rattle.reader.specs.Modes.{begun, decodedBy, verdictIn, coefficientsOf, spoiltSlice, lostAt, lostSample, roomChecksIn, lentVerdictIn, verdictOf, ReadsDamaged}
+use Rattle.reader.specs.Modes.{decodedBy, verdictIn, coefficientsOf, spoiltSlice, lostAt, lostSample, roomChecksIn, lentVerdictIn, verdictOf, ReadsDamaged}
 use Rattle.reader.specs.Steps.{Opened}
 use Rattle.reader.proofs.Openings.{settled, colours}
 use Rattle.reader.proofs.Lost.{row-slice}
@@ -49,22 +49,22 @@ use Rattle.demands.proofs.Damaged.{mark-none}
 whole : (h : Header) → WholeHeader (settingOf h)
 whole h = whole-bytes (h .picture .wf) (h .picture .nc) (h .picture .lh)
 
-module _ {s s′ : List ℕ} {h : Header} (o : Opened s h) (fine : stream s (settingOf h) (begun s h) .0 ≡ Fine) {t : ℕ} (l : t < slices (shapeOf h))
+module _ {s s′ : List ℕ} {h : Header} (o : Opened s h) (fine : stream s (settingOf h) (begun h) .0 ≡ Fine) {t : ℕ} (l : t < slices (shapeOf h))
     (differ : Differing s s′ (settingOf h) (h .slice) t) where
   slices-fine : verdictIn s′ h true ≡ Fine
   unfolding decodedBy
-  slices-fine = apart-fine (settingOf h) (settled o) (whole h) (begun s h) fine l differ
+  slices-fine = apart-fine (settingOf h) (settled o) (whole h) (begun h) fine l differ
 
   module _ (refused : spoiltSlice s′ h t ≡ true) where
     abbrev sound : Coefficients
-    sound = coefficientsIn (shapeOf h) (stream s (settingOf h) (begun s h) .1 .2)
+    sound = coefficientsIn (shapeOf h) (stream s (settingOf h) (begun h) .1 .2)
 
     -- a coefficient that is not lost is that of the sound stream
     same-coefficients : Every (shapeOf h) (λ i k dx dy x y. lostAt s′ h i k dx dy x y ≡ false → coefficientsOf s′ h true i k dx dy x y ≡ sound i k dx dy x y)
     unfolding decodedBy
     same-coefficients i c k dx dy x y d kept =
         let p = inside d in
-        apart-cells (settingOf h) (settled o) (whole h) (begun s h) fine l differ refused _ _
+        apart-cells (settingOf h) (settled o) (whole h) (begun h) fine l differ refused _ _
         (λ e. flags-differ (sym refused ∙ sym (ap (spoiltSlice s′ h) e) ∙ kept))
         (record { i = i; X = _; Y = _; component = c; column = p .0; row = p .1; slice = row-slice (shapeOf h) (o .shape) i c d; stands = inl refl })
 
@@ -85,7 +85,7 @@ damaged-apart {s} {a} {a′} {s′} {b} {b′} {m} {m′} {w} {w′} {v} {v′} 
     h : Header
     h = headerOf s
 
-    fine : stream s (settingOf h) (begun s h) .0 ≡ Fine
+    fine : stream s (settingOf h) (begun h) .0 ≡ Fine
     fine = page-read reads e .fine
 
     o : Opened s h
@@ -95,7 +95,7 @@ damaged-apart {s} {a} {a′} {s′} {b} {b′} {m} {m′} {w} {w′} {v} {v′} 
     same-reading : readingOf s′ ≡ readingOf s
     same-reading =
         reading-alike s s′ (header-fine reads e)
-        (alike-part 0 (h .slice + 2) (apart-begins (settingOf h) (settled o) (whole h) (begun s h) fine (damage .slice) (damage .differ)) (omega arith) (omega arith))
+        (alike-part 0 (h .slice + 2) (apart-begins (settingOf h) (settled o) (whole h) (begun h) fine (damage .slice) (damage .differ)) (omega arith) (omega arith))
 
     same : headerOf s′ ≡ h
     same = λ i. same-reading i .header

@@ -37,9 +37,9 @@ use Rattle.planes.proofs.Planes.{planes-length, planes-each}
 use Rattle.planes.proofs.Marking.{shield}
 use Rattle.reader.specs.declared.page.Page.{Page}
 use Rattle.reader.specs.Settings.{settingOf, depthOf, N, roomChecks}
-use Rattle.reader.specs.Decoding.{samplesFrom, distancesFrom}
+use Rattle.reader.specs.Decoding.{samplesFrom, distancesFrom, begun}
 use Rattle.reader.specs.Page.{headerOf, samplesBy}
-use Rattle.reader.specs.Modes.{begun, decodedBy, verdictIn, topsIn, coefficientsOf, lostSample, lostMarks, roomChecksIn, lentVerdictIn, verdictOf, ReadsDamaged}
+use Rattle.reader.specs.Modes.{decodedBy, verdictIn, topsIn, coefficientsOf, lostSample, lostMarks, roomChecksIn, lentVerdictIn, verdictOf, ReadsDamaged}
 use Rattle.reader.specs.Steps.{Opened}
 use Rattle.reader.proofs.Openings.{settled, colours}
 use Rattle.reader.proofs.Lost.{row-slice}
@@ -66,7 +66,7 @@ unfolding verdictOf lentVerdictIn decodedBy
 verdict-few s a w m =
     few-then (then (readingOf s .verdict) (first (roomChecksIn true (headerOf s) a w m))) (verdictIn s (headerOf s) true)
     (few-then (readingOf s .verdict) (first (roomChecksIn true (headerOf s) a w m)) (header-few s) (low (roomChecksIn true (headerOf s) a w m) (omega arith)))
-    (damaged-answer s (setting s) (begun s (headerOf s)))
+    (damaged-answer s (setting s) (begun (headerOf s)))
 
 bit-few : (b : Bool) → bit b ≤ 1
 bit-few true = omega arith
@@ -108,7 +108,7 @@ damaged-one {s} {a} {a′} {m} {m′} {w} {w′} {r} reads =
 page-verdict : (s : List ℕ) (a w m : ℕ) → verdictOf true s a w m ≡ first (pageTable s a w m)
 unfolding verdictOf lentVerdictIn decodedBy pageTable
 page-verdict s a w m =
-    joined-tables s (roomChecksIn true (headerOf s) a w m) (walkTable s (setting s) (headerOf s .slice)) (damaged-table s (setting s) (begun s (headerOf s)))
+    joined-tables s (roomChecksIn true (headerOf s) a w m) (walkTable s (setting s) (headerOf s .slice)) (damaged-table s (setting s) (begun (headerOf s)))
 
 -- what the slices of a page that is read leave
 module _ {s : List ℕ} (o : Opened s (headerOf s)) (fine : verdictIn s (headerOf s) true ≡ Fine) where

@@ -20,7 +20,8 @@ use Rattle.damage.specs.Stream.{streamBy}
 use Rattle.damage.proofs.Walked.{damaged-inside}
 use Rattle.reader.specs.Settings.{roomChecks}
 use Rattle.reader.specs.Page.{headerOf, verdict, pageBy, samplesBy, Reads}
-use Rattle.reader.specs.Modes.{begun, decodedBy, verdictIn, roomChecksIn, lentVerdictIn, verdictOf, ReadsIn}
+use Rattle.reader.specs.Decoding.{begun}
+use Rattle.reader.specs.Modes.{decodedBy, verdictIn, roomChecksIn, lentVerdictIn, verdictOf, ReadsIn}
 use Rattle.reader.specs.declared.page.Page.{Page}
 use Rattle.reader.proofs.Openings.{opened}
 use Rattle.demands.specs.Stored.{setting}
@@ -47,8 +48,8 @@ module _ (damaged : Bool) (s : List ℕ) (a w m : ℕ) where
       at = omega (arith, opened s e .accepted .slice)
 
       by : (damaged : Bool) → Inside (length s) (verdictIn s (headerOf s) damaged)
-      by false = stream-inside s (setting s) (begun s (headerOf s)) at
-      by true = damaged-inside s (setting s) (begun s (headerOf s)) at
+      by false = stream-inside s (setting s) (begun (headerOf s)) at
+      by true = damaged-inside s (setting s) (begun (headerOf s)) at
 
   verdict-inside : Inside (length s) (verdictOf damaged s a w m)
   unfolding verdictOf lentVerdictIn

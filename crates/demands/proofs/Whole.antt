@@ -25,9 +25,9 @@ use Rattle.planes.proofs.Planes.{planes-length, planes-each}
 use Rattle.planes.proofs.Marking.{no-marks}
 use Rattle.reader.specs.declared.page.Page.{Page}
 use Rattle.reader.specs.Settings.{N, roomChecks}
-use Rattle.reader.specs.Decoding.{handed, distancesFrom, decoded, decodedVerdict}
+use Rattle.reader.specs.Decoding.{handed, distancesFrom, decoded, decodedVerdict, begun}
 use Rattle.reader.specs.Page.{headerOf, lentVerdict, verdict, pageBy, samplesBy, workBy, Reads}
-use Rattle.reader.specs.Modes.{begun, decodedBy, verdictIn, lostAt, lostSample, lostMarks, roomChecksIn, lentVerdictIn, verdictOf, ReadsDamaged}
+use Rattle.reader.specs.Modes.{decodedBy, verdictIn, lostAt, lostSample, lostMarks, roomChecksIn, lentVerdictIn, verdictOf, ReadsDamaged}
 use Rattle.reader.specs.Steps.{Opened}
 use Rattle.reader.proofs.Openings.{colours}
 use Rattle.demands.specs.Stored.{shape, setting, beginning}

@@ -28,9 +28,9 @@ use Rattle.planes.specs.Marks.{bit}
 use Rattle.planes.specs.Places.{Inside}
 use Rattle.reader.specs.declared.page.Page.{Page}
 use Rattle.reader.specs.Settings.{N}
-use Rattle.reader.specs.Decoding.{samplesFrom}
+use Rattle.reader.specs.Decoding.{samplesFrom, begun}
 use Rattle.reader.specs.Page.{headerOf, workBy}
-use Rattle.reader.specs.Modes.{begun, spoiltSlice, lostSample, roomChecksIn, lentVerdictIn}
+use Rattle.reader.specs.Modes.{spoiltSlice, lostSample, roomChecksIn, lentVerdictIn}
 use Rattle.demands.specs.Stored.{shape, setting, Each, scaledUp, dequantisedFrom, QuantisedWhere}
 use Rattle.demands.specs.Lost.{lostAt, spared}
 use Rattle.demands.specs.Demands.{sampleAt, Decided}
@@ -38,7 +38,7 @@ use Rattle.demands.specs.Demands.{sampleAt, Decided}
 module _ (s : List ℕ) where
   -- the states from which the slices of a damaged page are read
   abbrev pub damagedStates : ℕ → State
-  damagedStates t = beforeDamaged s (setting s) (begun s (headerOf s)) t
+  damagedStates t = beforeDamaged s (setting s) (begun (headerOf s)) t
 
   -- a slice is spoilt
   abbrev pub lost : ℕ → Bool

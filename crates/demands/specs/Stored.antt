@@ -4,8 +4,7 @@ use mathlib.Core.Path.{_≡_}
 use mathlib.Core.Bool.{true}
 use mathlib.Core.List.{List}
 use Prim.Native.Nat.{ℕ, _+_, _-_, _*_, _/_, _%_, _^_, _<_, max}
-use lib.IntN.{ℤ, pos, natAbs}
-use lib.ListN.{replicate}
+use lib.IntN.{ℤ, natAbs}
 use Rattle.whole.specs.Numbers.{ceilDiv}
 use Rattle.quantiser.specs.Inverse.{coefficientOf, scaled}
 use Rattle.quantiser.specs.Forward.{indexOf}
@@ -25,7 +24,8 @@ use Rattle.slices.specs.Slice.{State}
 use Rattle.slices.specs.Reached.{sliceHas, slicePlanes, sliceIndex, beforeSlice}
 use Rattle.planes.specs.Values.{Coefficients}
 use Rattle.distances.specs.Rule.{type-of}
-use Rattle.reader.specs.Settings.{settingOf, N}
+use Rattle.reader.specs.Settings.{settingOf}
+use Rattle.reader.specs.Decoding.{begun}
 use Rattle.reader.specs.Page.{headerOf}
 
 -- ---- Table E.2: where the standard has the coefficient in column x and row y of filter type β of component i
@@ -68,7 +68,7 @@ module _ (s : List ℕ) where
 
   -- where the slices begin
   abbrev pub beginning : State
-  beginning = (headerOf s .slice, replicate 40 0, replicate (2 * N (headerOf s)) (pos 0))
+  beginning = begun (headerOf s)
 
   -- B.3: its filter type
   abbrev pub β : ℕ → Kind → ℕ → ℕ → ℕ → ℕ → ℕ

@@ -30,9 +30,9 @@ use Rattle.planes.specs.Places.{coefficientsIn, Inside}
 use Rattle.planes.proofs.Stretches.{offset-below}
 use Rattle.reader.specs.declared.page.Page.{Page}
 use Rattle.reader.specs.Settings.{settingOf, N}
-use Rattle.reader.specs.Decoding.{handed, distancesFrom}
+use Rattle.reader.specs.Decoding.{handed, distancesFrom, begun}
 use Rattle.reader.specs.Page.{pageBy}
-use Rattle.reader.specs.Modes.{begun, decodedBy, topsIn, lostMarks}
+use Rattle.reader.specs.Modes.{decodedBy, topsIn, lostMarks}
 use Rattle.reader.specs.Steps.{Opened, Decoded, IsSetting, Markable, filledBy, Shows, marksFrom, MarkedIn, DecodesIn}
 use Rattle.reader.proofs.Lost.{marks-told}
 use Rattle.reader.proofs.Openings.{fq-few, settled}
@@ -77,17 +77,17 @@ module _ {s : List ℕ} {h : Header} (o : Opened s h) where
   module _ (damaged : Bool) where
     pub decoded-long : length (decodedBy s h damaged .1 .2) ≡ 2 * N h
     unfolding decodedBy
-    decoded-long = stream-long s (settingOf h) (settled o) (begun s h) damaged ∙ length-replicate (2 * N h) (pos 0)
+    decoded-long = stream-long s (settingOf h) (settled o) (begun h) damaged ∙ length-replicate (2 * N h) (pos 0)
 
     decoded-small : Bounded (2 ^ 40) (decodedBy s h damaged .1 .2)
     unfolding decodedBy
     decoded-small =
         let few : h .picture .fq ≤ 8 = fq-few (o .accepted .ranges) in
-        stream-small s (settingOf h) (settled o) (begun s h) damaged (pow-mono {i = 31 + h .picture .fq} {j = 40} (omega arith)) (cleared (2 * N h))
+        stream-small s (settingOf h) (settled o) (begun h) damaged (pow-mono {i = 31 + h .picture .fq} {j = 40} (omega arith)) (cleared (2 * N h))
 
     pub decoded-few : Few (topsIn s h damaged)
     unfolding decodedBy
-    decoded-few = tops-few s (settingOf h) (settled o) (begun s h) damaged (λ b. omega (arith, none-yet b))
+    decoded-few = tops-few s (settingOf h) (settled o) (begun h) damaged (λ b. omega (arith, none-yet b))
 
     pub decoded-is : (a : ℕ) → a ≡ N h → Decoded h a (topsIn s h damaged) (decodedBy s h damaged .1 .2)
     decoded-is a room =

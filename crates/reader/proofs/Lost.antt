@@ -34,7 +34,8 @@ use Rattle.planes.proofs.Marking.{mark-same}
 use Rattle.distances.specs.Rule.{type-of}
 use Rattle.distances.proofs.Types.{type-is, type-exists}
 use Rattle.reader.specs.Settings.{settingOf, N}
-use Rattle.reader.specs.Modes.{begun, decodedBy, verdictIn, spoiltSlice, lostAt, lostSample, lostMarks}
+use Rattle.reader.specs.Decoding.{begun}
+use Rattle.reader.specs.Modes.{decodedBy, verdictIn, spoiltSlice, lostAt, lostSample, lostMarks}
 use Rattle.reader.specs.Steps.{Opened, isLost, lostIn, marksFrom}
 use Rattle.reader.proofs.Openings.{settled, colours}
 
@@ -78,12 +79,12 @@ module _ {s : List ℕ} {h : Header} (o : Opened s h) (fine : verdictIn s h true
       by : (b : Bool) → spoiltSlice s h t ≡ b → isLost (cell (decodedBy s h true .1 .2) n) ≡ spoiltSlice s h t
       by true e =
           ap isLost
-          (lost-marked s (settingOf h) (settled o) (begun s h) fine t component column row refl (omega (arith, length-replicate (2 * N h) (pos 0))) e)
+          (lost-marked s (settingOf h) (settled o) (begun h) fine t component column row refl (omega (arith, length-replicate (2 * N h) (pos 0))) e)
           ∙ sym e
       by false e =
-          ap isLost (kept-unmarked s (settingOf h) (settled o) (begun s h) fine t component column row refl e whole) ∙ sym e
+          ap isLost (kept-unmarked s (settingOf h) (settled o) (begun h) fine t component column row refl e whole) ∙ sym e
         where
-          whole : cell (begun s h .2) n ≡ pos (natAbs (cell (begun s h .2) n))
+          whole : cell (begun h .2) n ≡ pos (natAbs (cell (begun h .2) n))
           whole = rw (replicated (2 * N h) n (pos 0)) refl
 
   -- where the cells behind `show` have the same counts

@@ -6,7 +6,7 @@ use lib.ListN.{replicate}
 use Rattle.rows.specs.declared.Verdict.{Verdict}
 use Rattle.header.specs.declared.header.Header.{Header}
 use Rattle.shapes.specs.Shapes.{shapeOf}
-use Rattle.slices.specs.Slice.{Left}
+use Rattle.slices.specs.Slice.{State, Left}
 use Rattle.slices.specs.Stream.{stream}
 use Rattle.planes.specs.Values.{Coefficients, Values, samplesOf, planes}
 use Rattle.planes.specs.Places.{coefficientsIn}
@@ -29,10 +29,14 @@ module _ (h : Header) where
 
 -- ---- the same of a stream
 
+-- where a reading of the slices begins: the first slice header, no T yet, and 2N cells that are 0
+abbrev pub begun : Header → State
+begun h = (h .slice, replicate 40 0, replicate (2 * N h) (pos 0))
+
 module _ (s : List ℕ) (h : Header) where
-  -- Annexes A, C and D from the first slice header on, into 2N cells that are 0
+  -- Annexes A, C and D from there on
   unfoldable pub decoded : Left
-  decoded = stream s (settingOf h) (h .slice, replicate 40 0, replicate (2 * N h) (pos 0))
+  decoded = stream s (settingOf h) (begun h)
 
   abbrev pub decodedVerdict : Verdict
   decodedVerdict = decoded .0

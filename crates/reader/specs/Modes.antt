@@ -3,8 +3,8 @@ use mathlib.Core.Bool.{Bool, true, cond}
 use mathlib.Core.List.{List, [], _∷_, _++_}
 use mathlib.Core.Path.{_≡_}
 use Prim.Native.Nat.{ℕ, _*_}
-use lib.IntN.{ℤ, pos}
-use lib.ListN.{length, replicate}
+use lib.IntN.{ℤ}
+use lib.ListN.{length}
 use Rattle.rows.specs.Rows.{check, ample, first, then}
 use Rattle.rows.specs.declared.Check.{Check}
 use Rattle.rows.specs.declared.Row.the-variants.{Lent}
@@ -14,7 +14,7 @@ use Rattle.layout.specs.Precincts.{slice-with}
 use Rattle.header.specs.Header.{readingOf}
 use Rattle.header.specs.declared.header.Header.{Header}
 use Rattle.shapes.specs.Shapes.{shapeOf}
-use Rattle.slices.specs.Slice.{State, Left}
+use Rattle.slices.specs.Slice.{Left}
 use Rattle.damage.specs.Stream.{streamBy, spoilt}
 use Rattle.planes.specs.Values.{Bands, Coefficients, Values, planes}
 use Rattle.planes.specs.Marks.{markOf, bit}
@@ -22,7 +22,7 @@ use Rattle.planes.specs.Places.{coefficientsIn}
 use Rattle.distances.specs.Rule.{type-of}
 use Rattle.reader.specs.declared.page.Page.{Page}
 use Rattle.reader.specs.Settings.{settingOf, N, roomChecks}
-use Rattle.reader.specs.Decoding.{handed, distancesFrom}
+use Rattle.reader.specs.Decoding.{handed, distancesFrom, begun}
 use Rattle.reader.specs.Page.{headerOf, pageBy, samplesBy, workBy}
 
 -- B.5, B.11: what is told of each slice, of the coefficients that it has
@@ -32,13 +32,9 @@ bySlice h told i k dx dy x y = told (slice-with (shapeOf h) (type-of (shapeOf h)
 -- ---- what stands behind an accepted header
 
 module _ (s : List ℕ) (h : Header) where
-  -- the first slice header, no T yet, and 2N cells that are 0
-  abbrev pub begun : State
-  begun = (h .slice, replicate 40 0, replicate (2 * N h) (pos 0))
-
   -- Annexes A, C and D from there on
   unfoldable pub decodedBy : Bool → Left
-  decodedBy damaged = streamBy s (settingOf h) damaged begun
+  decodedBy damaged = streamBy s (settingOf h) damaged (begun h)
 
   abbrev pub verdictIn : Bool → Verdict
   verdictIn damaged = decodedBy damaged .0
@@ -55,7 +51,7 @@ module _ (s : List ℕ) (h : Header) where
 
   -- slice t is spoilt
   abbrev pub spoiltSlice : ℕ → Bool
-  spoiltSlice t = spoilt s (settingOf h) begun t
+  spoiltSlice t = spoilt s (settingOf h) (begun h) t
 
   -- a coefficient is lost where the slice is spoilt into which B.5 and B.11 put it
   abbrev pub lostAt : Bands Bool
