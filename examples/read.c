@@ -6,6 +6,9 @@
  * With --damaged slices that are damaged are lost, and the rest of the page is read. Each component then has a mask beside its samples, a PGM of 8 bits that is
  * white where they are lost and black elsewhere: PICTURE.lost, or of several components PICTURE.0.lost and so on.
  *
+ * With --distances each sample has a distance of its own. They are told of in a line for each component, and stand beside its samples as a PGM of 16 bits:
+ * PICTURE.distance, or of several components PICTURE.0.distance and so on.
+ *
  * The status is 0 where the page is read, 3 where it is read and samples are lost, 1 where it is refused, 2 where it could not be tried or written. */
 #include <errno.h>
 #include <stdio.h>
@@ -65,20 +68,33 @@ static uint8_t *contents(const char *name, size_t *size)
     return bytes;
 }
 
-/* What a page is read into, cell by cell of its samples. There are marks in the damaged mode only. */
+/* What is asked for beside the samples. */
+struct options {
+    int damaged, distances;
+};
+
+/* What a page is read into, cell by cell of its samples. Marks and distances are null pointers where they are not asked for. */
 struct buffers {
     uint64_t cells;
     uint16_t *samples;
     int64_t *work;
     uint8_t *marks;
+    uint16_t *distances;
 };
 
-static struct buffers buffers_for(uint64_t cells, int damaged)
+static struct buffers buffers_for(uint64_t cells, struct options asked)
 {
-    struct buffers b = {cells, room_for(cells, sizeof *b.samples), room_for(2 * cells, sizeof *b.work), NULL};
-    if (damaged)
+    struct buffers b = {cells, room_for(cells, sizeof *b.samples), room_for(2 * cells, sizeof *b.work), NULL, NULL};
+    if (asked.damaged)
         b.marks = room_for(cells, sizeof *b.marks);
+    if (asked.distances)
+        b.distances = room_for(cells, sizeof *b.distances);
     return b;
+}
+
+static int all_there(const struct buffers *b, struct options asked)
+{
+    return b->samples && b->work && (b->marks || !asked.damaged) && (b->distances || !asked.distances);
 }
 
 static void give_back(struct buffers *b)
@@ -86,6 +102,7 @@ static void give_back(struct buffers *b)
     free(b->samples);
     free(b->work);
     free(b->marks);
+    free(b->distances);
 }
 
 static uint64_t area_of(const struct pitchladle_component *c)
@@ -102,29 +119,50 @@ static uint64_t lost_among(const uint8_t *marks, uint64_t count)
     return lost;
 }
 
-/* `marks` is a null pointer where there are none. */
-static void print_components(const struct pitchladle_page *page, const uint8_t *marks)
+static void print_lost(const struct buffers *b, uint64_t i, uint64_t first, uint64_t area)
 {
+    printf("component %llu lost %llu of %llu\n", (unsigned long long)i, (unsigned long long)lost_among(b->marks + first, area), (unsigned long long)area);
+}
+
+/* The largest distance among the samples that are not lost, and how many of them have 0. */
+static void print_distances(const struct buffers *b, uint64_t i, uint64_t first, uint64_t area)
+{
+    uint64_t largest = 0, exact = 0;
+    for (uint64_t at = first; at < first + area; at++) {
+        if (b->marks && b->marks[at])
+            continue;
+        if (b->distances[at] > largest)
+            largest = b->distances[at];
+        exact += b->distances[at] == 0;
+    }
+    printf("component %llu largest %llu exact %llu of %llu\n", (unsigned long long)i, (unsigned long long)largest, (unsigned long long)exact,
+           (unsigned long long)area);
+}
+
+/* `first` is the cell at which a component begins. */
+static void print_components(const struct pitchladle_page *page, const struct buffers *b)
+{
+    uint64_t first = 0;
     for (uint64_t i = 0; i < page->components; i++) {
         const struct pitchladle_component *c = &page->component[i];
         printf("component %llu width %llu height %llu precision %llu distance %llu\n", (unsigned long long)i, (unsigned long long)c->width,
                (unsigned long long)c->height, (unsigned long long)c->precision, (unsigned long long)c->distance);
-        if (marks) {
-            printf("component %llu lost %llu of %llu\n", (unsigned long long)i, (unsigned long long)lost_among(marks, area_of(c)),
-                   (unsigned long long)area_of(c));
-            marks += area_of(c);
-        }
+        if (b->marks)
+            print_lost(b, i, first, area_of(c));
+        if (b->distances)
+            print_distances(b, i, first, area_of(c));
+        first += area_of(c);
     }
 }
 
-static void print_record(const struct pitchladle_page *page, const uint8_t *marks)
+static void print_record(const struct pitchladle_page *page, const struct buffers *b)
 {
     printf("answer %llu at %llu\n", (unsigned long long)page->answer, (unsigned long long)page->place);
     if (page->answer != 0) {
         printf("refused: %s\n", page->answer < 9 ? reasons[page->answer] : "?");
         return;
     }
-    print_components(page, marks);
+    print_components(page, b);
     printf("caption %s\n", page->caption ? "yes" : "no");
 }
 
@@ -134,37 +172,56 @@ static int closed(FILE *file, const char *name)
     return fclose(file) != 0 || bad ? failed(name) : READ;
 }
 
-/* `count` components of one size and precision, from component `first` on, whose samples begin at `samples`. */
-static int write_picture(const char *name, const struct pitchladle_page *page, uint64_t first, uint64_t count, const uint16_t *samples)
+/* A plane of a page, cell by cell: the samples, or what stands beside them. */
+struct plane {
+    const char *ending; /* of its files' names */
+    uint64_t white;     /* the largest that a cell can be; 0: as the component's precision says */
+    int comments;       /* whether comment lines have the distances */
+    uint64_t (*cell)(const struct buffers *b, uint64_t at);
+};
+
+static uint64_t sample_at(const struct buffers *b, uint64_t at)
 {
-    const struct pitchladle_component *c = &page->component[first];
-    uint64_t area = area_of(c);
+    return b->samples[at];
+}
+
+static uint64_t mask_at(const struct buffers *b, uint64_t at)
+{
+    return b->marks[at] ? 255 : 0;
+}
+
+static uint64_t distance_at(const struct buffers *b, uint64_t at)
+{
+    return b->distances[at];
+}
+
+static const struct plane sample_plane = {"", 0, 1, sample_at};
+static const struct plane lost_plane = {".lost", 255, 0, mask_at};
+static const struct plane distance_plane = {".distance", 65535, 0, distance_at};
+
+static void put_cell(FILE *file, uint64_t cell, uint64_t white)
+{
+    if (white > 255)
+        putc(cell >> 8, file);
+    putc(cell & 255, file);
+}
+
+/* `count` components of one size and precision, from component i on, whose cells begin at `first`. */
+static int write_file(const char *name, const struct plane *p, const struct pitchladle_page *page, uint64_t i, uint64_t count, const struct buffers *b,
+                      uint64_t first)
+{
+    const struct pitchladle_component *c = &page->component[i];
+    uint64_t area = area_of(c), white = p->white ? p->white : (1ULL << c->precision) - 1;
     FILE *file = fopen(name, "wb");
     if (!file)
         return failed(name);
     fprintf(file, count == 3 ? "P6\n" : "P5\n");
-    for (uint64_t i = first; i < first + count; i++)
-        fprintf(file, "# component %llu distance %llu\n", (unsigned long long)i, (unsigned long long)page->component[i].distance);
-    fprintf(file, "%llu %llu\n%llu\n", (unsigned long long)c->width, (unsigned long long)c->height, (1ULL << c->precision) - 1);
+    for (uint64_t k = 0; p->comments && k < count; k++)
+        fprintf(file, "# component %llu distance %llu\n", (unsigned long long)(i + k), (unsigned long long)c[k].distance);
+    fprintf(file, "%llu %llu\n%llu\n", (unsigned long long)c->width, (unsigned long long)c->height, (unsigned long long)white);
     for (uint64_t at = 0; at < area; at++)
-        for (uint64_t i = 0; i < count; i++) {
-            uint16_t sample = samples[i * area + at];
-            if (c->precision > 8)
-                putc(sample >> 8, file);
-            putc(sample & 255, file);
-        }
-    return closed(file, name);
-}
-
-/* Where the samples of component c are lost, whose marks begin at `marks`. */
-static int write_mask(const char *name, const struct pitchladle_component *c, const uint8_t *marks)
-{
-    FILE *file = fopen(name, "wb");
-    if (!file)
-        return failed(name);
-    fprintf(file, "P5\n%llu %llu\n255\n", (unsigned long long)c->width, (unsigned long long)c->height);
-    for (uint64_t at = 0; at < area_of(c); at++)
-        putc(marks[at] ? 255 : 0, file);
+        for (uint64_t k = 0; k < count; k++)
+            put_cell(file, p->cell(b, first + k * area + at), white);
     return closed(file, name);
 }
 
@@ -184,67 +241,79 @@ static char *name_of(const char *name, int several, uint64_t i, const char *endi
     return own;
 }
 
-static int write_pictures(const char *name, const struct pitchladle_page *page, const uint16_t *samples)
+/* Each component of a plane, in a file of its own. */
+static int write_plane(const char *name, const struct plane *p, const struct pitchladle_page *page, const struct buffers *b)
+{
+    uint64_t first = 0;
+    int status = READ;
+    for (uint64_t i = 0; i < page->components && status == READ; i++) {
+        char *own = name_of(name, page->components > 1, i, p->ending);
+        if (!own)
+            return failed(name);
+        status = write_file(own, p, page, i, 1, b, first);
+        first += area_of(&page->component[i]);
+        free(own);
+    }
+    return status;
+}
+
+static int write_samples(const char *name, const struct pitchladle_page *page, const struct buffers *b)
 {
     const struct pitchladle_component *c = page->component;
-    int status = READ;
-    if (page->components == 1 || (page->components == 3 && alike(&c[0], &c[1]) && alike(&c[0], &c[2])))
-        return write_picture(name, page, 0, page->components, samples);
-    for (uint64_t i = 0; i < page->components && status == READ; i++) {
-        char *own = name_of(name, 1, i, "");
-        if (!own)
-            return failed(name);
-        status = write_picture(own, page, i, 1, samples);
-        samples += area_of(&c[i]);
-        free(own);
-    }
-    return status;
+    if (page->components == 3 && alike(&c[0], &c[1]) && alike(&c[0], &c[2]))
+        return write_file(name, &sample_plane, page, 0, 3, b, 0);
+    return write_plane(name, &sample_plane, page, b);
 }
 
-static int write_masks(const char *name, const struct pitchladle_page *page, const uint8_t *marks)
+/* The samples, and beside them what was asked for. */
+static int write_pictures(const char *name, const struct pitchladle_page *page, const struct buffers *b)
 {
-    int status = READ;
-    for (uint64_t i = 0; i < page->components && status == READ; i++) {
-        char *own = name_of(name, page->components > 1, i, ".lost");
-        if (!own)
-            return failed(name);
-        status = write_mask(own, &page->component[i], marks);
-        marks += area_of(&page->component[i]);
-        free(own);
-    }
+    int status = write_samples(name, page, b);
+    if (b->marks && status == READ)
+        status = write_plane(name, &lost_plane, page, b);
+    if (b->distances && status == READ)
+        status = write_plane(name, &distance_plane, page, b);
     return status;
 }
 
-/* The record, and where a picture is wanted the samples, and the masks where there are marks. */
+/* The record, and where a picture is wanted the files. */
 static int show(const struct pitchladle_page *page, const struct buffers *b, const char *picture)
 {
     int status = READ;
-    print_record(page, b->marks);
+    print_record(page, b);
     if (page->answer != 0)
         return REFUSED;
     if (picture)
-        status = write_pictures(picture, page, b->samples);
-    if (picture && b->marks && status == READ)
-        status = write_masks(picture, page, b->marks);
+        status = write_pictures(picture, page, b);
     if (status == READ && b->marks && lost_among(b->marks, b->cells) > 0)
         return LOST;
     return status;
 }
 
-static int read_page(const char *name, const uint8_t *stream, size_t size, const char *picture, int damaged)
+static void read_into(const struct buffers *b, const uint8_t *stream, size_t size, struct pitchladle_page *page)
+{
+    uint64_t n = b->cells;
+    if (b->marks && b->distances)
+        pitchladle_read_damaged_places(stream, size, b->samples, n, b->work, 2 * n, b->marks, n, b->distances, n, page);
+    else if (b->marks)
+        pitchladle_read_damaged(stream, size, b->samples, n, b->work, 2 * n, b->marks, n, page);
+    else if (b->distances)
+        pitchladle_read_places(stream, size, b->samples, n, b->work, 2 * n, b->distances, n, page);
+    else
+        pitchladle_read(stream, size, b->samples, n, b->work, 2 * n, page);
+}
+
+static int read_page(const char *name, const uint8_t *stream, size_t size, const char *picture, struct options asked)
 {
     struct pitchladle_page page;
-    struct buffers b = buffers_for(pitchladle_needs(stream, size), damaged);
-    int status;
-    if (!b.samples || !b.work || (damaged && !b.marks)) {
-        fprintf(stderr, "%s: no memory for %llu samples, at %d bytes each\n", name, (unsigned long long)b.cells, damaged ? 19 : 18);
-        status = FAILED;
-    } else {
-        if (damaged)
-            pitchladle_read_damaged(stream, size, b.samples, b.cells, b.work, 2 * b.cells, b.marks, b.cells, &page);
-        else
-            pitchladle_read(stream, size, b.samples, b.cells, b.work, 2 * b.cells, &page);
+    struct buffers b = buffers_for(pitchladle_needs(stream, size), asked);
+    int status = FAILED;
+    if (all_there(&b, asked)) {
+        read_into(&b, stream, size, &page);
         status = show(&page, &b, picture);
+    } else {
+        int bytes = 18 + asked.damaged + 2 * asked.distances;
+        fprintf(stderr, "%s: no memory for %llu samples, at %d bytes each\n", name, (unsigned long long)b.cells, bytes);
     }
     give_back(&b);
     return status;
@@ -253,9 +322,9 @@ static int read_page(const char *name, const uint8_t *stream, size_t size, const
 static int usage(const char *program)
 {
     fprintf(stderr,
-            "usage: %s [--damaged] FILE [PICTURE]\n"
+            "usage: %s [--damaged] [--distances] FILE [PICTURE]\n"
             "reads the page in FILE, prints its record, and writes its samples to PICTURE; with --damaged behind damaged slices too, and PICTURE.lost is\n"
-            "white where samples are lost\n",
+            "white where samples are lost; with --distances PICTURE.distance has a distance for each sample\n",
             program);
     return FAILED;
 }
@@ -265,18 +334,31 @@ static int is_option(const char *word)
     return strncmp(word, "--", 2) == 0;
 }
 
+/* Whether the word is an option, which is then asked for. */
+static int ask(struct options *asked, const char *word)
+{
+    if (strcmp(word, "--damaged") == 0)
+        return asked->damaged = 1;
+    if (strcmp(word, "--distances") == 0)
+        return asked->distances = 1;
+    return 0;
+}
+
 int main(int count, char **words)
 {
-    int damaged = count > 1 && strcmp(words[1], "--damaged") == 0;
-    char **names = words + 1 + damaged;
-    int given = count - 1 - damaged;
+    struct options asked = {0, 0};
+    int first = 1;
+    while (first < count && ask(&asked, words[first]))
+        first++;
+    char **names = words + first;
+    int given = count - first;
     if (given < 1 || given > 2 || is_option(names[0]) || (given == 2 && is_option(names[1])))
         return usage(words[0]);
     size_t size;
     uint8_t *stream = contents(names[0], &size);
     if (!stream)
         return failed(names[0]);
-    int status = read_page(names[0], stream, size, given == 2 ? names[1] : NULL, damaged);
+    int status = read_page(names[0], stream, size, given == 2 ? names[1] : NULL, asked);
     free(stream);
     return status;
 }

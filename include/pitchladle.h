@@ -7,7 +7,7 @@
  *   - a pointer is valid for as many cells as the count behind it says, `page` for one struct, and aligned for its type; it is not null, even where the
  *     count is 0;
  *   - the buffers of one call do not overlap; during the call no other thread writes to any of them, or reads those that the call writes to: samples, work cells,
- *     marks and record;
+ *     marks, distances and record;
  *   - the program is one for x86-64, linked with libpitchladle.a. */
 #ifndef PITCHLADLE_H
 #define PITCHLADLE_H
@@ -29,7 +29,7 @@ extern "C" {
  *   6  a length does not fit: the stream's, a precinct's, a packet's or a subpacket's
  *   7  a bitplane count is not from 0 to 31
  *   8  a prediction or a raw flag is chosen where it may not be
- * pitchladle_read_damaged answers 0 to 6. */
+ * pitchladle_read_damaged and pitchladle_read_damaged_places answer 0 to 6. */
 
 /* One component of a page: its size in samples, the bits of a sample (8 to 16), and the distance. No sample of the component is further than its distance
  * from the one that the page's whole-number coefficients gave before they were quantised, if that was done as D.4 or D.5 of the standard say and each coefficient
@@ -73,6 +73,25 @@ void pitchladle_read(const uint8_t *stream, size_t stream_bytes, uint16_t *sampl
  *   as pitchladle_read leaves them. Marks and work cells may hold anything before. */
 void pitchladle_read_damaged(const uint8_t *stream, size_t stream_bytes, uint16_t *samples, size_t sample_cells, int64_t *work, size_t work_cells,
                              uint8_t *marks, size_t mark_bytes, struct pitchladle_page *page);
+
+/* Reads a page as pitchladle_read does, and gives each sample a distance of its own. With N as pitchladle_needs says, it takes N distances beside the N sample cells
+ * and 2 N work cells, and looks at their count last; more may be lent, and with fewer the answer is 5.
+ *   Distances stand in the order of the samples. Each is what the distance in the record is, but for its own sample alone: that sample is no further than this from
+ *   the one that the coefficients gave before they were quantised, on the terms that stand above with struct pitchladle_component. None is more than the distance of
+ *   its component, and where nothing was cut off (every T is 0) all are 0.
+ *   With N distances lent, record, samples and work cells are what pitchladle_read leaves. Where the page is refused no distance is changed, and where it is read
+ *   none behind the N is. The distances may hold anything before. */
+void pitchladle_read_places(const uint8_t *stream, size_t stream_bytes, uint16_t *samples, size_t sample_cells, int64_t *work, size_t work_cells,
+                            uint16_t *distances, size_t distance_cells, struct pitchladle_page *page);
+
+/* Reads a page as pitchladle_read_damaged does, and gives each sample a distance of its own. With N as pitchladle_needs says, it takes N distances beside the N
+ * sample cells, 2 N work cells and N marks, and looks at their count last; more may be lent, and with fewer the answer is 5.
+ *   The distance of a sample that is marked 0 is as pitchladle_read_places says: for that sample alone, never more than the component's, and 0 where nothing was cut
+ *   off in the slices that are not lost. A sample that is marked 1 has 2^precision - 1 for its distance, which says nothing about it.
+ *   With N distances lent, record, samples, work cells and marks are what pitchladle_read_damaged leaves. Where the page is refused no distance is changed, and
+ *   where it is read none behind the N is. The distances may hold anything before. */
+void pitchladle_read_damaged_places(const uint8_t *stream, size_t stream_bytes, uint16_t *samples, size_t sample_cells, int64_t *work, size_t work_cells,
+                                    uint8_t *marks, size_t mark_bytes, uint16_t *distances, size_t distance_cells, struct pitchladle_page *page);
 
 /* How many samples the page has: the sum of width times height over its components, at most 2^30. 0 where the stream is refused before its first
  * slice; any other page may still be refused later. */

@@ -1,7 +1,7 @@
 #!/bin/sh
 # Reads generated pages, some of several megapixels, with the C example over the static library, and compares answers, distances and samples with the
-# independent decoder's, in the damaged mode too; then what the record says of a caption with stored answers. Usage: library.sh FOLDER, where tests/build.sh has put its programs.
-# Stops at the first difference.
+# independent decoder's, in the damaged mode and with distances at each sample too; then what the record says of a caption with stored answers.
+# Usage: library.sh FOLDER, where tests/build.sh has put its programs. Stops at the first difference.
 set -eu
 bin=$(realpath "${1:?"usage: library.sh FOLDER"}")
 cd "$(dirname "$0")/.."
@@ -11,30 +11,30 @@ out=$(mktemp -d)
 trap 'rm -rf "$out"' EXIT
 $compile examples/read.c "$archive" -o "$out/read"
 
-# compare STREAM...: the words are for tests' `stream`
-mode=
-compare() {
+# compare_by MODE STREAM...: MODE is one argument, the words for both readers: with masks of what is lost, distances at each sample, both or neither;
+# the others are for tests' `stream`
+compare_by() {
+    mode=$1
+    shift
     mkdir "$out/ours" "$out/theirs"
     "$bin/stream" "$@" >"$out/page.jxs"
     status=0
     $run "$out/read" $mode "$out/page.jxs" "$out/ours/page" >"$out/record" || status=$?
     echo "$status" >"$out/ours/status"
-    head -n 1 "$out/record" >"$out/ours/answer"
+    answer "$out/record" >"$out/ours/answer"
     "$bin/page" --any $mode --pictures "$out/theirs/page" <"$out/page.jxs" >"$out/report"
     status_for "$out/report" >"$out/theirs/status"
-    head -n 1 "$out/report" >"$out/theirs/answer"
+    answer "$out/report" >"$out/theirs/answer"
     diff -r -q "$out/ours" "$out/theirs" ||
-        { echo "stream $*: $(cat "$out/ours/answer"), status $status, independent decoder $(cat "$out/theirs/answer")"; exit 1; }
-    echo "stream $*: $(cat "$out/ours/answer"), same"
+        { echo "${mode:+$mode, }stream $*: $(cat "$out/ours/answer"), status $status, independent decoder $(cat "$out/theirs/answer")"; exit 1; }
+    echo "${mode:+$mode, }stream $*: $(head -n 1 "$out/ours/answer"), same"
     rm -r "$out/ours" "$out/theirs"
 }
 
-# compare_damaged STREAM...: as `compare`, in the damaged mode, with the masks of what is lost
-compare_damaged() {
-    mode=--damaged
-    compare "$@"
-    mode=
-}
+compare() { compare_by '' "$@"; }
+
+# answer REPORT: the first line, and what the distances at the samples come to
+answer() { sed -n '1p; / largest /p' "$1"; }
 
 # status_for REPORT: the exit status of the example where the independent decoder says this: 1 refused, 3 read with loss, 0 read without
 status_for() { awk 'NR == 1 && !/^answer 0 / { status = 1 } / lost / && $4 > 0 { status = 3 } END { print status + 0 }' "$1"; }
@@ -48,12 +48,19 @@ for seed in 1 2 3 4 5 6; do
     compare syntax $seed large
     compare picture $seed large
     compare damaged $seed large
-    compare_damaged spoilt $seed large
-    compare_damaged apart $seed large
+    compare_by --damaged spoilt $seed large
+    compare_by --damaged apart $seed large
+    compare_by --distances coarse $seed large
+    compare_by '--damaged --distances' spoilt $seed large
+    compare_by '--damaged --distances' apart $seed large
 done
-compare foreign 1
-compare_damaged measured subsampled 1001 999
-compare_damaged foreign 1
+compare_by --damaged measured subsampled 1001 999
+compare_by --distances measured coarse 2000 2000
+compare_by --distances measured coarse-subsampled 1999 1501
+compare_by '--damaged --distances' measured coarse 1501 1999
+for mode in '' --damaged --distances '--damaged --distances'; do
+    compare_by "$mode" foreign 1
+done
 
 # caption NAME: the record's yes or no crosses to C as NAME.caption has it. Of a refused page the example says nothing but why
 caption() {

@@ -1,18 +1,38 @@
 #!/bin/sh
 # Holds the proved program of the other modes, target/bin/modes, against agreed answers and against `page --modes` on made
-# streams. Stops at the first difference. Usage: modes.sh FOLDER [WORD...], where tests/build.sh has put its programs; the words are for `compare`, and
-# `spoilt 300` where there are none.
+# streams. Stops at the first difference. Usage: modes.sh FOLDER [stored | WORD...], where tests/build.sh has put its programs. `stored` compares the
+# agreed answers, other words are for `compare`; without any the script does the first and then `spoilt 300` and `placed 300`.
 set -eu
-bin=$(realpath "${1:?"usage: modes.sh FOLDER [WORD...]"}")
+bin=$(realpath "${1:?"usage: modes.sh FOLDER [stored | WORD...]"}")
 shift
-[ $# -gt 0 ] || set -- spoilt 300
 cd "$(dirname "$0")/.."
 . tests/proved.sh
 proved modes
-says 'unknown mode' </dev/null
-printf 'x' | says 'unknown mode'
-printf 'd' | says 'answer 1 at 0'
-{ printf 'd' && head -c 16384 /dev/zero; } | says 'answer 2 at 0'
-{ printf 'd' && head -c 16385 /dev/zero; } | says 'input too long'
-tests/vectors.sh crates/vectors/data/C-15 sh -c "{ printf d && cat; } | $program"
-"$bin/compare" "$bin/page --modes" "$program" "$@"
+
+# agrees LETTER FOLDER[:ENDING]: the mode of this letter has the answers stored there
+agrees() { tests/vectors.sh "crates/vectors/data/$2" sh -c "{ printf $1 && cat; } | $program"; }
+
+compare_stored() {
+    says 'unknown mode' </dev/null
+    printf 'x' | says 'unknown mode'
+    for letter in d p q; do
+        printf $letter | says 'answer 1 at 0'
+        { printf $letter && head -c 16384 /dev/zero; } | says 'answer 2 at 0'
+        { printf $letter && head -c 16385 /dev/zero; } | says 'input too long'
+    done
+    agrees d C-15
+    agrees p C-22
+    agrees q C-22:damaged.txt
+}
+
+compare_made() { "$bin/compare" "$bin/page --modes" "$program" "$@"; }
+
+case ${1:-} in
+stored) compare_stored ;;
+'')
+    compare_stored
+    compare_made spoilt 300
+    compare_made placed 300
+    ;;
+*) compare_made "$@" ;;
+esac

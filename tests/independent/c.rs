@@ -59,6 +59,14 @@ pub fn precinct_body(s: &[u8], layout: &Layout, at: usize, lprc: usize) -> Resul
     Ok(start..start + lprc)
 }
 
+/// T[p,b] of the precinct at an offset by band index, 0 for a band that does not exist; also where Q or R is a forbidden one.
+pub fn truncations(s: &[u8], header: &Header, layout: &Layout, at: usize) -> Vec<u32> {
+    let mut weights = header.wgt.iter();
+    let mut truncation =
+        |_: &Band| weights.next().map_or(0, |weight| truncation(s[at + 3], s[at + 4], *weight, header.br));
+    layout.bands.iter().map(|band| band.as_ref().map_or(0, &mut truncation)).collect()
+}
+
 /// The precinct that is being read: where it starts and ends, and its column.
 struct Precinct {
     at: usize,
@@ -492,5 +500,22 @@ mod tests {
         assert_eq!(truncation(2, 0, weight, 4), 0);
         assert_eq!(truncation(31, 0, weight, 4), 15);
         assert_eq!(truncation(31, 0, weight, 5), 28);
+    }
+
+    /// The weights belong to the bands that exist; a spoilt header may have any Q and R.
+    #[test]
+    fn truncations_of_any_precinct_header() {
+        let mut header = Header::plain(8, 8, 1, 1, &[(1, 1), (2, 2)]);
+        let layout = Layout::new(&header);
+        let exists: Vec<bool> = layout.bands.iter().map(Option::is_some).collect();
+        assert_eq!(exists, [true, true, true, true, true, false, true, false]);
+        let weight = |gain| a::Weight { gain, priority: 3 + gain };
+        header.wgt = (0..6).map(weight).collect();
+        let read = |q, r| truncations(&[0xff, 0xff, 0, 0, 1, q, r], &header, &layout, 2);
+        assert_eq!(read(9, 0), [9, 8, 7, 6, 5, 0, 4, 0]);
+        assert_eq!(read(9, 5), [8, 7, 7, 6, 5, 0, 4, 0]);
+        assert_eq!(read(2, 255), [1, 0, 0, 0, 0, 0, 0, 0]);
+        assert_eq!(read(17, 0), [15, 15, 15, 14, 13, 0, 12, 0]);
+        assert_eq!(read(255, 255), [15, 15, 15, 15, 15, 0, 15, 0]);
     }
 }

@@ -8,13 +8,14 @@ use super::b::Layout;
 use super::c::{self, Decoded, Reader};
 use super::e::{self, Plane};
 use super::Refusal;
+use std::ops::Range;
 
 /// As `c::codestream`, with nothing in it that comes from a lost slice; and which coefficients are lost.
 pub fn codestream(s: &[u8], header: &Header, layout: &Layout) -> Result<(Decoded, Vec<Plane<bool>>), Refusal> {
     let mut reader = Reader::new(s, header, layout);
     let mut lost = e::planes(layout);
     c::each_slice(s, header, layout, |rows, at| {
-        let end = step_over(s, layout, rows.len() * layout.columns, at)?;
+        let end = step_over(s, layout, rows.clone(), at, |_, _, _| ())?;
         let largest_t = reader.decoded.largest_t.clone();
         if reader.slice(rows.clone(), at).is_err() {
             reader.decoded.largest_t = largest_t;
@@ -26,11 +27,21 @@ pub fn codestream(s: &[u8], header: &Header, layout: &Layout) -> Result<(Decoded
     Ok((reader.decoded, lost))
 }
 
-/// Goes over precincts by their declared lengths, whatever stands in them, and gives the offset behind them.
-fn step_over(s: &[u8], layout: &Layout, precincts: usize, at: usize) -> Result<usize, Refusal> {
-    (0..precincts).try_fold(at, |at, _| {
+/// Goes over the precincts of a slice by their declared lengths, whatever stands in them, and gives the offset behind them.
+/// `precinct` takes the row, the column and the offset of each.
+pub fn step_over(
+    s: &[u8],
+    layout: &Layout,
+    rows: Range<usize>,
+    at: usize,
+    mut precinct: impl FnMut(usize, usize, usize),
+) -> Result<usize, Refusal> {
+    let mut precincts = rows.flat_map(|row| (0..layout.columns).map(move |column| (row, column)));
+    precincts.try_fold(at, |at, (row, column)| {
         let lprc = c::precinct_length(s, at)?;
-        Ok(c::precinct_body(s, layout, at, lprc)?.end)
+        let end = c::precinct_body(s, layout, at, lprc)?.end;
+        precinct(row, column, at);
+        Ok(end)
     })
 }
 
@@ -111,7 +122,7 @@ mod tests {
         let precinct = |&lprc: &usize| [&(lprc as u32).to_be_bytes()[1..], &vec![0xff; 3 + lprc]].concat();
         let mut s: Vec<u8> = lengths.iter().flat_map(precinct).collect();
         s.truncate(bytes);
-        step_over(&s, &layout, lengths.len(), 0).map_err(|refusal| (refusal.row, refusal.place))
+        step_over(&s, &layout, 0..lengths.len(), 0, |_, _, _| ()).map_err(|refusal| (refusal.row, refusal.place))
     }
 
     #[test]

@@ -8,23 +8,31 @@
 use super::b::{ceil_div, Band, Layout};
 use std::ops::Range;
 
-/// What the transformations of Annexes E and F go over. Each of their steps changes a value by something worked out from
-/// the sum of others.
+/// A step of the transformations of Annexes E and F. It changes a value by a share of a sum of others:
+/// sign × floor((sum + addend) / 2^shift).
+#[derive(Clone, Copy)]
+pub struct Step {
+    pub sign: i64,
+    pub addend: i64,
+    pub shift: u32,
+}
+
+/// What the transformations of Annexes E and F go over.
 pub trait Value: Copy + Default {
-    fn changed<const N: usize>(self, others: [Self; N], change: impl Fn(i64) -> i64) -> Self;
+    fn changed<const N: usize>(self, others: [Self; N], step: Step) -> Self;
 }
 
 /// Coefficients, which become samples.
 impl Value for i64 {
-    fn changed<const N: usize>(self, others: [i64; N], change: impl Fn(i64) -> i64) -> i64 {
-        self + change(others.iter().sum())
+    fn changed<const N: usize>(self, others: [i64; N], step: Step) -> i64 {
+        self + step.sign * ((others.iter().sum::<i64>() + step.addend) >> step.shift)
     }
 }
 
 /// Whether a coefficient is lost, which becomes whether a sample depends on a lost one: by the form of the steps, whatever
 /// the change comes to.
 impl Value for bool {
-    fn changed<const N: usize>(self, others: [bool; N], _: impl Fn(i64) -> i64) -> bool {
+    fn changed<const N: usize>(self, others: [bool; N], _: Step) -> bool {
         others.iter().fold(self, |any, other| any | other)
     }
 }
@@ -44,11 +52,26 @@ pub fn planes<V: Value>(layout: &Layout) -> Vec<Plane<V>> {
 
 /// Gives one value to all coefficients in these rows of precincts, in all bands of all components.
 pub fn fill<V: Value>(planes: &mut [Plane<V>], layout: &Layout, rows: Range<usize>, value: V) {
-    for line in rows.flat_map(|row| layout.packets(row)).flatten() {
+    for row in rows {
+        for column in 0..layout.columns {
+            fill_precinct(planes, layout, row, column, |_| value);
+        }
+    }
+}
+
+/// Gives all coefficients of a precinct a value that goes by the index of their band.
+pub fn fill_precinct<V: Value>(
+    planes: &mut [Plane<V>],
+    layout: &Layout,
+    row: usize,
+    column: usize,
+    value: impl Fn(usize) -> V,
+) {
+    for line in layout.packets(row).into_iter().flatten() {
         let band = layout.bands[line.band].as_ref().expect("packets hold existing bands");
         let plane = &mut planes[band.component];
-        let start = plane.cell(band, 0, line.y);
-        plane.cells[start..start + band.width].fill(value);
+        let start = plane.cell(band, layout.first_x(band, column), line.y);
+        plane.cells[start..start + layout.width(band, column)].fill(value(line.band));
     }
 }
 
@@ -141,16 +164,17 @@ fn join_line<V: Value>(low: &[V], high: &[V], out: &mut [V]) {
 }
 
 fn even_sample<V: Value>(low: V, before: V, behind: V) -> V {
-    low.changed([before, behind], |sum| -((sum + 2) >> 2))
+    low.changed([before, behind], Step { sign: -1, addend: 2, shift: 2 })
 }
 
 fn odd_sample<V: Value>(high: V, before: V, behind: V) -> V {
-    high.changed([before, behind], |sum| sum >> 1)
+    high.changed([before, behind], Step { sign: 1, addend: 0, shift: 1 })
 }
 
 #[cfg(test)]
 mod tests {
     use super::*;
+    use crate::distance::Number;
 
     /// Joins low and high coefficients across, and also down in a component of one column over another.
     fn both_ways<V: Value + PartialEq>(low: &[V], high: &[V]) -> Vec<V> {
@@ -194,5 +218,23 @@ mod tests {
         assert_eq!(reach(2, 0), [0, 1]);
         assert_eq!(reach(2, 1), [0, 1]);
         assert_eq!(reach(3, 2), [1, 2]);
+    }
+
+    /// Even places take a quarter of both highs, odd ones half of both evens, each sum rounded up once.
+    #[test]
+    fn numbers_of_a_line() {
+        let line = |low: &[u64], high: &[u64]| {
+            let [low, high] = [low, high].map(|part| part.iter().copied().map(Number).collect::<Vec<_>>());
+            both_ways(&low, &high).iter().map(|number| number.0).collect::<Vec<u64>>()
+        };
+        assert_eq!(line(&[10, 12], &[3, 1]), [12, 16, 13, 14]);
+        assert_eq!(line(&[3, 1], &[2]), [4, 5, 2]);
+        assert_eq!(line(&[0, 0], &[1, 1]), [1, 2, 1, 2]);
+        assert_eq!(line(&[0, 0, 0], &[0, 5, 0]), [0, 1, 2, 7, 2, 2]);
+        assert_eq!(line(&[0, 0, 0], &[0, 5]), [0, 1, 2, 8, 3]);
+        assert_eq!(line(&[0, 9, 0], &[0, 0]), [0, 5, 9, 5, 0]);
+        assert_eq!(line(&[0], &[7]), [4, 11]);
+        assert_eq!(line(&[7], &[0]), [7, 7]);
+        assert_eq!(line(&[0, 0, 0], &[0, 0]), [0; 5]);
     }
 }

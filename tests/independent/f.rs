@@ -1,18 +1,22 @@
 //! Annex F: the inverse reversible multiple component transformation.
 
-use super::e::{Plane, Value};
+use super::e::{Plane, Step, Value};
 
-/// Turns components 0 to 2 into red, green and blue (F.3, Table F.2).
+/// Turns components 0 to 2 into red, green and blue (F.3).
 pub fn inverse_rct<V: Value>(planes: &mut [Plane<V>]) {
     if let [first, second, third, ..] = planes {
         let cells = first.cells.iter_mut().zip(&mut second.cells).zip(&mut third.cells);
         for ((c0, c1), c2) in cells {
-            let green = c0.changed([*c1, *c2], |sum| -(sum >> 2));
-            *c0 = green.changed([*c2], |c2| c2);
-            *c2 = green.changed([*c1], |c1| c1);
-            *c1 = green;
+            (*c0, *c1, *c2) = colours(*c0, *c1, *c2);
         }
     }
+}
+
+/// Red, green and blue of one place (Table F.2).
+pub fn colours<V: Value>(c0: V, c1: V, c2: V) -> (V, V, V) {
+    let whole = Step { sign: 1, addend: 0, shift: 0 };
+    let green = c0.changed([c1, c2], Step { sign: -1, addend: 0, shift: 2 });
+    (green.changed([c2], whole), green, green.changed([c1], whole))
 }
 
 #[cfg(test)]

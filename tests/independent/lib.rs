@@ -12,6 +12,7 @@ pub mod distance;
 pub mod e;
 pub mod f;
 pub mod g;
+mod places;
 pub mod text;
 
 /// The rows of document 01's table of refusal numbers, but for row 0.
@@ -64,6 +65,9 @@ pub struct Page {
 /// For each component, row by row: whether a sample depends on a lost coefficient.
 pub type Marks = Vec<Vec<bool>>;
 
+/// For each component, row by row: how far a sample may be from that of the coefficients before they were quantized.
+pub type Distances = Vec<Vec<u16>>;
+
 /// Reads one whole codestream into at most `room` sample cells over all components.
 pub fn read(s: &[u8], room: usize) -> Result<Page, Refusal> {
     let (header, layout) = opened(s, room)?;
@@ -77,6 +81,20 @@ pub fn read_damaged(s: &[u8], room: usize) -> Result<(Page, Marks), Refusal> {
     let (header, layout) = opened(s, room)?;
     let (decoded, lost) = damaged::codestream(s, &header, &layout)?;
     Ok((page(&header, &layout, decoded), marks(&header, &layout, lost)))
+}
+
+/// As `read`, with the distance at each sample (document 02, C-22). There is room for as many of them as samples.
+pub fn read_places(s: &[u8], room: usize) -> Result<(Page, Distances), Refusal> {
+    let page = read(s, room)?;
+    Ok((page, places::distances(s)?))
+}
+
+/// As `read_damaged`, with the distance at each sample, which is the largest where a sample is lost.
+pub fn read_damaged_places(s: &[u8], room: usize) -> Result<(Page, Marks, Distances), Refusal> {
+    let (page, marks) = read_damaged(s, room)?;
+    let mut distances = places::distances(s)?;
+    places::give_up(&mut distances, &page, &marks);
+    Ok((page, marks, distances))
 }
 
 /// All up to the fields of the first slice header.

@@ -1,15 +1,17 @@
 //! Reads a codestream from standard input and prints what document 01's page program prints.
 //!
-//! Usage: `page [--any] [--damaged] [--layout | --pictures NAME | --time N]` or `page [--any] --modes`. `--any` lifts the page
-//! program's limits. `--damaged` loses spoilt slices instead of the page (document 02, C-15) and prints the marks too.
+//! Usage: `page [--any] [--damaged] [--distances] [--layout | --pictures NAME | --time N]` or `page [--any] --modes`. `--any` lifts
+//! the page program's limits. `--damaged` loses spoilt slices instead of the page (document 02, C-15) and prints the marks too;
+//! `--distances` also prints the distance at each sample (C-22).
 //! Instead of the page, `--layout` prints where the header puts bands, precincts, packets and lines, and `--time` the
 //! shortest time of N readings. `--pictures` writes the samples to files and prints the answer; with `--damaged` it also
-//! writes masks, and prints how much is lost. `--modes` takes a letter before the stream: `d` is for `--damaged`.
+//! writes masks, and prints how much is lost; with `--distances` it also writes those, and prints the largest and how many are 0.
+//! `--modes` takes a letter before the stream: `d` is for `--damaged`, `p` for `--distances` and `q` for both.
 
 mod layout;
 mod pictures;
 
-use independent::{read, read_damaged, text, Marks, Page, Refusal};
+use independent::{read, read_damaged, read_damaged_places, read_places, text, Distances, Marks, Page, Refusal};
 use std::env;
 use std::io::{self, BufWriter, Read, Write};
 use std::process::ExitCode;
@@ -30,6 +32,7 @@ struct Options {
     any: bool,
     modes: bool,
     damaged: bool,
+    distances: bool,
     wanted: Wanted,
 }
 
@@ -37,7 +40,9 @@ fn main() -> ExitCode {
     let options = match options() {
         Some(options) => options,
         None => {
-            eprintln!("usage: page [--any] [--modes | [--damaged] [--layout | --pictures NAME | --time N]] < STREAM");
+            eprintln!(
+                "usage: page [--any] [--modes | [--damaged] [--distances] [--layout | --pictures NAME | --time N]] < STREAM"
+            );
             return ExitCode::from(2);
         }
     };
@@ -51,13 +56,14 @@ fn main() -> ExitCode {
 }
 
 fn options() -> Option<Options> {
-    let mut options = Options { any: false, modes: false, damaged: false, wanted: Wanted::Page };
+    let mut options = Options { any: false, modes: false, damaged: false, distances: false, wanted: Wanted::Page };
     let mut words = env::args().skip(1);
     while let Some(word) = words.next() {
         match word.as_str() {
             "--any" => options.any = true,
             "--modes" => options.modes = true,
             "--damaged" => options.damaged = true,
+            "--distances" => options.distances = true,
             "--layout" => options.wanted = Wanted::Layout,
             "--pictures" => options.wanted = Wanted::Pictures(words.next()?),
             "--time" => options.wanted = Wanted::Time(words.next()?.parse().ok()?),
@@ -74,6 +80,8 @@ fn run(options: Options) -> io::Result<()> {
     match input.split_first() {
         _ if !options.modes => answer(&mut out, &options, &input)?,
         Some((b'd', stream)) => answer(&mut out, &Options { damaged: true, ..options }, stream)?,
+        Some((b'p', stream)) => answer(&mut out, &Options { distances: true, ..options }, stream)?,
+        Some((b'q', stream)) => answer(&mut out, &Options { damaged: true, distances: true, ..options }, stream)?,
         _ => writeln!(out, "unknown mode")?,
     }
     out.flush()
@@ -81,7 +89,7 @@ fn run(options: Options) -> io::Result<()> {
 
 fn answer(out: &mut impl Write, options: &Options, stream: &[u8]) -> io::Result<()> {
     let room = if options.any { usize::MAX } else { MAX_SAMPLES };
-    let reading = || reading(options.damaged, stream, room);
+    let reading = || reading(options, stream, room);
     match &options.wanted {
         _ if !options.any && stream.len() > MAX_BYTES => writeln!(out, "input too long"),
         Wanted::Page => print_page(out, reading(), stream.len()),
@@ -91,41 +99,72 @@ fn answer(out: &mut impl Write, options: &Options, stream: &[u8]) -> io::Result<
     }
 }
 
-/// A page with its marks, of which a plain reading has none.
-type Reading = Result<(Page, Marks), Refusal>;
-
-fn reading(damaged: bool, stream: &[u8], room: usize) -> Reading {
-    if damaged {
-        read_damaged(stream, room)
-    } else {
-        read(stream, room).map(|page| (page, Marks::new()))
-    }
+/// A page, with marks and distances where they are asked for.
+struct Reading {
+    page: Page,
+    marks: Marks,
+    distances: Distances,
 }
 
-fn print_page(out: &mut impl Write, reading: Reading, length: usize) -> io::Result<()> {
+fn reading(options: &Options, stream: &[u8], room: usize) -> Result<Reading, Refusal> {
+    let (page, marks, distances) = match (options.damaged, options.distances) {
+        (false, false) => (read(stream, room)?, Marks::new(), Distances::new()),
+        (false, true) => {
+            let (page, distances) = read_places(stream, room)?;
+            (page, Marks::new(), distances)
+        }
+        (true, false) => {
+            let (page, marks) = read_damaged(stream, room)?;
+            (page, marks, Distances::new())
+        }
+        (true, true) => read_damaged_places(stream, room)?,
+    };
+    Ok(Reading { page, marks, distances })
+}
+
+fn print_page(out: &mut impl Write, reading: Result<Reading, Refusal>, length: usize) -> io::Result<()> {
     match reading {
-        Ok((page, marks)) => {
+        Ok(Reading { page, marks, distances }) => {
             text::page(out, &page, length)?;
-            text::marks(out, &page, &marks)
+            text::marks(out, &page, &marks)?;
+            text::distances(out, &page, &distances)
         }
         Err(refusal) => text::refusal(out, refusal),
     }
 }
 
-fn write_pictures(out: &mut impl Write, name: &str, reading: Reading, length: usize) -> io::Result<()> {
+fn write_pictures(
+    out: &mut impl Write,
+    name: &str,
+    reading: Result<Reading, Refusal>,
+    length: usize,
+) -> io::Result<()> {
     match reading {
-        Ok((page, marks)) => {
-            pictures::write(name, &page)?;
-            pictures::write_masks(name, &page, &marks)?;
+        Ok(reading) => {
+            pictures::write(name, &reading.page)?;
+            pictures::write_masks(name, &reading.page, &reading.marks)?;
+            pictures::write_distances(name, &reading.page, &reading.distances)?;
             text::success(out, length)?;
-            for (i, marks) in marks.iter().enumerate() {
-                let lost = marks.iter().filter(|&&lost| lost).count();
-                writeln!(out, "component {i} lost {lost} of {}", marks.len())?;
-            }
-            Ok(())
+            (0..reading.page.components.len()).try_for_each(|i| print_sums(out, i, &reading))
         }
         Err(refusal) => text::refusal(out, refusal),
     }
+}
+
+/// What marks and distances of component `i` come to. Distances of lost samples say nothing.
+fn print_sums(out: &mut impl Write, i: usize, reading: &Reading) -> io::Result<()> {
+    let is_lost = |at: usize| reading.marks.get(i).map_or(false, |marks| marks[at]);
+    let all = reading.page.components[i].samples.len();
+    if i < reading.marks.len() {
+        let lost = (0..all).filter(|&at| is_lost(at)).count();
+        writeln!(out, "component {i} lost {lost} of {all}")?;
+    }
+    if let Some(distances) = reading.distances.get(i) {
+        let kept = || (0..all).filter(|&at| !is_lost(at)).map(|at| distances[at]);
+        let (largest, exact) = (kept().max().unwrap_or(0), kept().filter(|&distance| distance == 0).count());
+        writeln!(out, "component {i} largest {largest} exact {exact} of {all}")?;
+    }
+    Ok(())
 }
 
 /// Reads the stream again and again, buffers allocated anew each time.

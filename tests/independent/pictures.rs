@@ -1,6 +1,7 @@
-//! The samples of a page as PGM or PPM files, with the distances in comment lines; and its marks as PGM masks.
+//! The samples of a page as PGM or PPM files, with the components' distances in comment lines; and its marks and the distances at
+//! its samples as PGM files.
 
-use independent::{Component, Marks, Page};
+use independent::{Component, Distances, Marks, Page};
 use std::fs::File;
 use std::io::{self, BufWriter, Write};
 
@@ -33,14 +34,27 @@ fn write_one(name: &str, number: usize, components: &[Component]) -> io::Result<
     out.flush()
 }
 
-/// For a single component the mask `name.lost`, else for each component `i` the mask `name.i.lost`: white where lost, else black.
+/// The masks `.lost`: white where a sample is lost, else black.
 pub fn write_masks(name: &str, page: &Page, marks: &Marks) -> io::Result<()> {
-    for (i, (component, marks)) in page.components.iter().zip(marks).enumerate() {
-        let name = if page.components.len() == 1 { format!("{name}.lost") } else { format!("{name}.{i}.lost") };
-        let mut out = BufWriter::new(File::create(name)?);
-        write!(out, "P5\n{} {}\n255\n", component.width, component.height)?;
-        out.write_all(&marks.iter().map(|&lost| if lost { 255 } else { 0 }).collect::<Vec<u8>>())?;
-        out.flush()?;
-    }
-    Ok(())
+    marks.iter().enumerate().try_for_each(|(i, marks)| {
+        let bytes: Vec<u8> = marks.iter().map(|&lost| if lost { 255 } else { 0 }).collect();
+        write_beside(name, page, i, "lost", 255, &bytes)
+    })
+}
+
+/// The files `.distance`, with numbers of 16 bits.
+pub fn write_distances(name: &str, page: &Page, distances: &Distances) -> io::Result<()> {
+    distances.iter().enumerate().try_for_each(|(i, distances)| {
+        let bytes: Vec<u8> = distances.iter().flat_map(|distance| distance.to_be_bytes()).collect();
+        write_beside(name, page, i, "distance", 65_535, &bytes)
+    })
+}
+
+/// A PGM of component `i` without comments: `name.ending` for a single component, else `name.i.ending`.
+fn write_beside(name: &str, page: &Page, i: usize, ending: &str, most: u16, bytes: &[u8]) -> io::Result<()> {
+    let name = if page.components.len() == 1 { format!("{name}.{ending}") } else { format!("{name}.{i}.{ending}") };
+    let mut out = BufWriter::new(File::create(name)?);
+    write!(out, "P5\n{} {}\n{most}\n", page.components[i].width, page.components[i].height)?;
+    out.write_all(bytes)?;
+    out.flush()
 }

@@ -1,6 +1,6 @@
-//! What the page program prints (document 01), and what it prints of marks (document 02, C-15).
+//! What the page program prints (document 01), and what it prints of marks and distances (document 02, C-15 and C-22).
 
-use super::{Marks, Page, Refusal};
+use super::{Distances, Marks, Page, Refusal};
 use std::io::{self, Write};
 
 pub fn refusal(out: &mut impl Write, refusal: Refusal) -> io::Result<()> {
@@ -13,13 +13,19 @@ pub fn page(out: &mut impl Write, page: &Page, length: usize) -> io::Result<()> 
     for (i, component) in page.components.iter().enumerate() {
         let (width, height, distance) = (component.width, component.height, component.distance);
         writeln!(out, "component {i} width {width} height {height} distance {distance}")?;
-        for row in component.samples.chunks(width) {
-            write!(out, "{}", row[0])?;
-            for sample in &row[1..] {
-                write!(out, " {sample}")?;
-            }
-            writeln!(out)?;
+        numbers(out, &component.samples, width)?;
+    }
+    Ok(())
+}
+
+/// Numbers with single spaces between them, a line for each row.
+fn numbers(out: &mut impl Write, numbers: &[u16], width: usize) -> io::Result<()> {
+    for row in numbers.chunks(width) {
+        write!(out, "{}", row[0])?;
+        for number in &row[1..] {
+            write!(out, " {number}")?;
         }
+        writeln!(out)?;
     }
     Ok(())
 }
@@ -36,6 +42,15 @@ pub fn marks(out: &mut impl Write, page: &Page, marks: &Marks) -> io::Result<()>
             let digits: String = row.iter().map(|&lost| if lost { '1' } else { '0' }).collect();
             writeln!(out, "{digits}")?;
         }
+    }
+    Ok(())
+}
+
+/// The distances at the samples of a page.
+pub fn distances(out: &mut impl Write, page: &Page, distances: &Distances) -> io::Result<()> {
+    for (i, (component, distances)) in page.components.iter().zip(distances).enumerate() {
+        writeln!(out, "distances {i}")?;
+        numbers(out, distances, component.width)?;
     }
     Ok(())
 }

@@ -5,6 +5,7 @@
 pub mod setting;
 
 mod bounds;
+mod coarse;
 mod damage;
 mod forward;
 mod leftover;
@@ -19,7 +20,7 @@ use independent::b::Layout;
 use rng::Rng;
 use setting::Limits;
 use stream::Stream;
-use write::{Manner, Source};
+use write::{Manner, Source, Steps};
 
 #[derive(Clone, Copy, Debug, PartialEq, Eq)]
 pub enum Kind {
@@ -29,6 +30,8 @@ pub enum Kind {
     Picture,
     /// Encoded coefficients, up to the largest that the bitplane counts can express.
     Coefficients,
+    /// Encoded pictures and coefficients, coarse in a part of the page alone.
+    Coarse,
     /// Spoilt streams.
     Damaged,
     /// Pages of which slices are spoilt.
@@ -45,10 +48,11 @@ pub enum Kind {
     Header,
 }
 
-pub const KINDS: [(&str, Kind); 10] = [
+pub const KINDS: [(&str, Kind); 11] = [
     ("syntax", Kind::Syntax),
     ("picture", Kind::Picture),
     ("coefficients", Kind::Coefficients),
+    ("coarse", Kind::Coarse),
     ("damaged", Kind::Damaged),
     ("spoilt", Kind::Spoilt),
     ("apart", Kind::Apart),
@@ -109,7 +113,7 @@ pub fn make(kind: Kind, seed: u64, limits: Limits) -> Made {
             (format!("{:?}-{}", kind, seed).to_lowercase(), stream.bytes, exact)
         }
     };
-    let sound = matches!(kind, Kind::Syntax | Kind::Picture | Kind::Coefficients | Kind::Twin);
+    let sound = matches!(kind, Kind::Syntax | Kind::Picture | Kind::Coefficients | Kind::Coarse | Kind::Twin);
     Made { name, bytes, sound, exact }
 }
 
@@ -117,7 +121,7 @@ pub fn make(kind: Kind, seed: u64, limits: Limits) -> Made {
 fn in_slices(rng: &mut Rng, limits: Limits) -> (Stream, Option<Vec<Vec<u16>>>) {
     let any_number = rng.once_in(8);
     loop {
-        let kind = rng.pick(&[Kind::Syntax, Kind::Picture, Kind::Coefficients]);
+        let kind = rng.pick(&[Kind::Syntax, Kind::Picture, Kind::Coefficients, Kind::Coarse]);
         let made = sound(rng, kind, limits);
         if any_number || made.0.slices().len() > 1 {
             return made;
@@ -125,23 +129,39 @@ fn in_slices(rng: &mut Rng, limits: Limits) -> (Stream, Option<Vec<Vec<u16>>>) {
     }
 }
 
+/// Which Q the precincts of a page to measure with have.
+pub enum Q {
+    UpTo(usize),
+    /// This one in the lower right corner, 0 elsewhere.
+    InCorner(usize),
+}
+
 /// Makes a sheet of letters to measure with.
-pub fn measured(header: &Header, max_q: usize, seed: u64) -> Vec<u8> {
+pub fn measured(header: &Header, q: Q, seed: u64) -> Vec<u8> {
     let mut rng = Rng::new(seed);
     let layout = Layout::new(header);
     let picture = picture::sheet(&mut rng, header, &layout);
     let source = Source::Coefficients(forward::coefficients(header, &layout, &picture));
-    write::stream(&mut rng, header, &layout, Manner { max_q, varied: false }, &source).bytes
+    let steps = match q {
+        Q::UpTo(most) => Steps::UpTo(most),
+        Q::InCorner(coarse) => coarse::corner(&layout, coarse),
+    };
+    write::stream(&mut rng, header, &layout, Manner { steps, varied: false }, &source).bytes
 }
 
 /// A sound stream, and the samples of its coefficients where it encodes some.
 fn sound(rng: &mut Rng, kind: Kind, limits: Limits) -> (Stream, Option<Vec<Vec<u16>>>) {
+    let coloured = kind == Kind::Coarse && rng.once_in(4);
     loop {
         let header = setting::random(rng, limits);
         let layout = Layout::new(&header);
+        if kind == Kind::Coarse && !coarse::suits(&header, &layout, coloured) {
+            continue;
+        }
         let bands = match kind {
             Kind::Syntax => None,
             Kind::Coefficients => Some(coefficients(rng, &header, &layout)),
+            Kind::Coarse if rng.once_in(2) => Some(coefficients(rng, &header, &layout)),
             _ => {
                 let picture = picture::random(rng, &header, &layout);
                 Some(forward::coefficients(&header, &layout, &picture))
@@ -149,8 +169,11 @@ fn sound(rng: &mut Rng, kind: Kind, limits: Limits) -> (Stream, Option<Vec<Vec<u
         };
         let exact = bands.as_ref().map(|bands| samples(&header, &layout, bands));
         let source = bands.map_or(Source::Syntax, Source::Coefficients);
-        let max_q = rng.pick(&[0, 0, 3, 8, 31]);
-        let mut stream = write::stream(rng, &header, &layout, Manner { max_q, varied: true }, &source);
+        let steps = match kind {
+            Kind::Coarse => coarse::steps(rng, &header, &layout),
+            _ => Steps::UpTo(rng.pick(&[0, 0, 3, 8, 31])),
+        };
+        let mut stream = write::stream(rng, &header, &layout, Manner { steps, varied: true }, &source);
         if stream.bytes.len() <= limits.bytes {
             if !header.fs {
                 leftover::leave(&mut rng.aside(), &mut stream);
@@ -198,7 +221,7 @@ mod tests {
 
     #[test]
     fn sound_streams_are_read_and_samples_are_within_their_distance() {
-        for kind in [Kind::Syntax, Kind::Picture, Kind::Coefficients] {
+        for kind in [Kind::Syntax, Kind::Picture, Kind::Coefficients, Kind::Coarse] {
             for seed in 0..300 {
                 let made = make(kind, seed, SMALL);
                 let page = independent::read(&made.bytes, SMALL.samples).expect(&made.name);
@@ -219,7 +242,8 @@ mod tests {
             let layout = Layout::new(&header);
             let picture = picture::random(&mut rng, &header, &layout);
             let source = Source::Coefficients(forward::coefficients(&header, &layout, &picture));
-            let stream = write::stream(&mut rng, &header, &layout, Manner { max_q: 0, varied: true }, &source);
+            let stream =
+                write::stream(&mut rng, &header, &layout, Manner { steps: Steps::UpTo(0), varied: true }, &source);
             let page = independent::read(&stream.bytes, SMALL.samples).unwrap();
             assert!(page.components.iter().all(|component| component.distance == 0));
             if header.fq == 0 {

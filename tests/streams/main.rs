@@ -1,16 +1,19 @@
 //! Writes a stream for tests to standard output.
 //!
-//! Usage: `stream KIND SEED [large]`, KIND being syntax, picture, coefficients, damaged, spoilt, apart, twin, bounds,
+//! Usage: `stream KIND SEED [large]`, KIND being syntax, picture, coefficients, coarse, damaged, spoilt, apart, twin, bounds,
 //! foreign or header; or
 //! `stream measured NAME WIDTH HEIGHT`, NAME being lossless, lossy, subsampled, sheet,
-//! uniform or uniform-lossless.
+//! uniform, uniform-lossless, coarse or coarse-subsampled.
 
 use independent::a::Header;
 use std::env;
 use std::io::{self, Write};
 use std::process::ExitCode;
 use streams::setting::{self, LARGE, SMALL};
-use streams::{make, measured, KINDS};
+use streams::{make, measured, KINDS, Q};
+
+const FULL: &[(usize, usize)] = &[(1, 1); 3];
+const QUARTER: &[(usize, usize)] = &[(1, 1), (2, 2), (2, 2)];
 
 fn main() -> ExitCode {
     let words: Vec<String> = env::args().skip(1).collect();
@@ -41,14 +44,16 @@ fn random_stream(kind: &str, seed: &str, limits: setting::Limits) -> Option<Vec<
 
 fn measured_page(name: &str, width: &str, height: &str) -> Option<Vec<u8>> {
     let (width, height) = (width.parse().ok()?, height.parse().ok()?);
-    let (header, max_q) = match name {
-        "lossless" => (setting::measured(width, height, true, &[(1, 1); 3]), 0),
-        "lossy" => (setting::measured(width, height, false, &[(1, 1); 3]), 5),
-        "subsampled" => (setting::measured(width, height, false, &[(1, 1), (2, 2), (2, 2)]), 5),
-        "sheet" => (setting::measured(width, height, true, &[(1, 1)]), 0),
-        "uniform" => (Header { qpih: 1, ..setting::measured(width, height, false, &[(1, 1); 3]) }, 5),
-        "uniform-lossless" => (Header { qpih: 1, ..setting::measured(width, height, true, &[(1, 1); 3]) }, 0),
+    let (header, q) = match name {
+        "lossless" => (setting::measured(width, height, true, FULL), Q::UpTo(0)),
+        "lossy" => (setting::measured(width, height, false, FULL), Q::UpTo(5)),
+        "subsampled" => (setting::measured(width, height, false, QUARTER), Q::UpTo(5)),
+        "sheet" => (setting::measured(width, height, true, &FULL[..1]), Q::UpTo(0)),
+        "uniform" => (Header { qpih: 1, ..setting::measured(width, height, false, FULL) }, Q::UpTo(5)),
+        "uniform-lossless" => (Header { qpih: 1, ..setting::measured(width, height, true, FULL) }, Q::UpTo(0)),
+        "coarse" => (Header { cw: 2, ..setting::measured(width, height, true, FULL) }, Q::InCorner(2)),
+        "coarse-subsampled" => (Header { cw: 2, ..setting::measured(width, height, false, QUARTER) }, Q::InCorner(6)),
         _ => return None,
     };
-    Some(measured(&header, max_q, 1))
+    Some(measured(&header, q, 1))
 }

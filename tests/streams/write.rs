@@ -14,11 +14,17 @@ pub enum Source {
     Coefficients(Vec<Vec<i64>>),
 }
 
+/// Which Q the precincts have: the larger, the coarser.
+pub enum Steps {
+    /// Any up to this one.
+    UpTo(usize),
+    /// One for each precinct, in order.
+    Each(Vec<usize>),
+}
+
 /// How freely a stream is written.
-#[derive(Clone, Copy)]
 pub struct Manner {
-    /// The largest Q of a precinct.
-    pub max_q: usize,
+    pub steps: Steps,
     /// Whether modes, filler, padding and optional segments vary; else all is as plain as can be.
     pub varied: bool,
 }
@@ -26,7 +32,7 @@ pub struct Manner {
 /// Writes a whole stream.
 pub fn stream(rng: &mut Rng, header: &Header, layout: &Layout, manner: Manner, source: &Source) -> Stream {
     let mut draft = Draft::default();
-    let lcod = write_header(&mut draft, rng, header, manner);
+    let lcod = write_header(&mut draft, rng, header, manner.varied);
     let mut writer = Writer {
         rng,
         header,
@@ -42,7 +48,7 @@ pub fn stream(rng: &mut Rng, header: &Header, layout: &Layout, manner: Manner, s
         for row in rows.clone() {
             let packets = layout.packets(row);
             for column in 0..layout.columns {
-                writer.precinct(row == rows.start, column, &packets);
+                writer.precinct(row, row == rows.start, column, &packets);
             }
         }
     }
@@ -54,15 +60,15 @@ pub fn stream(rng: &mut Rng, header: &Header, layout: &Layout, manner: Manner, s
 /// Writes a stream that ends with its first slice header.
 pub fn header(rng: &mut Rng, header: &Header) -> Stream {
     let mut draft = Draft::default();
-    let lcod = write_header(&mut draft, rng, header, Manner { max_q: 0, varied: false });
+    let lcod = write_header(&mut draft, rng, header, false);
     draft.segment(0xff20, &[(0, 16)]);
     draft.finish(lcod)
 }
 
 /// All segments before the first slice header, in an order that Annex A allows. Gives the field of Lcod.
-fn write_header(draft: &mut Draft, rng: &mut Rng, header: &Header, manner: Manner) -> Field {
+fn write_header(draft: &mut Draft, rng: &mut Rng, header: &Header, varied: bool) -> Field {
     draft.marker(0xff10);
-    let capabilities = if manner.varied { rng.below(4) } else { 0 };
+    let capabilities = if varied { rng.below(4) } else { 0 };
     let bits: Vec<_> = rng.bytes(capabilities).into_iter().map(|byte| (u64::from(byte), 8)).collect();
     draft.segment(0xff50, &bits);
     let lcod = draft.segment(0xff12, &picture_header(rng, header))[0];
@@ -73,9 +79,9 @@ fn write_header(draft: &mut Draft, rng: &mut Rng, header: &Header, manner: Manne
         .collect();
     let weights: Vec<_> =
         header.wgt.iter().flat_map(|weight| [(u64::from(weight.gain), 8), (u64::from(weight.priority), 8)]).collect();
-    let mut registration = manner.varied && rng.once_in(3);
+    let mut registration = varied && rng.once_in(3);
     for (marker, fields) in [(0xff13, components), (0xff14, weights), (0, Vec::new())] {
-        while manner.varied && rng.once_in(4) {
+        while varied && rng.once_in(4) {
             extension(draft, rng);
         }
         if registration && rng.once_in(2) {
@@ -158,8 +164,11 @@ struct Writer<'a> {
 }
 
 impl Writer<'_> {
-    fn precinct(&mut self, top: bool, column: usize, packets: &[Vec<Line>]) {
-        let q = self.rng.between(0, self.manner.max_q);
+    fn precinct(&mut self, row: usize, top: bool, column: usize, packets: &[Vec<Line>]) {
+        let q = match &self.manner.steps {
+            Steps::UpTo(most) => self.rng.between(0, *most),
+            Steps::Each(steps) => steps[row * self.layout.columns + column],
+        };
         let r = if self.manner.varied { self.rng.below(2 * self.layout.bands.len()) } else { 0 };
         let length = self.draft.put(&[(0, 24), (q as u64, 8), (r as u64, 8)])[0];
         let codings = self.modes(top, q, r);

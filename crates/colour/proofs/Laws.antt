@@ -87,6 +87,12 @@ pub numbers-most : {B : ℕ} (e : Numbers) → (e .c0 ≤ B) × (e .c1 ≤ B) ×
 unfolding numbersRct
 numbers-most e h = (omega arith, omega arith, omega arith)
 
+-- larger numbers become larger ones
+pub numbers-grow : (e e′ : Numbers) → (e .c0 ≤ e′ .c0) × (e .c1 ≤ e′ .c1) × (e .c2 ≤ e′ .c2)
+    → (numbersRct e .c0 ≤ numbersRct e′ .c0) × (numbersRct e .c1 ≤ numbersRct e′ .c1) × (numbersRct e .c2 ≤ numbersRct e′ .c2)
+unfolding numbersRct
+numbers-grow e e′ h = (omega arith, omega arith, omega arith)
+
 -- whatever the kind, the pixel that comes out fits
 pub record Fitted (o : Pixel) : Type 0 where
   pub o₀ : SFits w64 (o .c0)

@@ -6,10 +6,9 @@ use native.Mathlib.Decide.{ℕ-discrete}
 use native.Mathlib.Omega.{arith}
 use borrow.Author.Tests.{eq-eqb, ne-eqb}
 use Rattle.whole.proofs.Linear.{flags-differ}
-use Rattle.colour.specs.Rct.{inverseRct, numbersRct, Marks, marksRct}
-use Rattle.colour.specs.Table.{partOf, table-F1, colouredNumber}
-use Rattle.colour.specs.declared.Pixel.{Pixel}
-use Rattle.colour.proofs.Laws.{numbers-most}
+use Rattle.colour.specs.Rct.{numbersRct, Marks, marksRct}
+use Rattle.colour.specs.Table.{partOf, table-F1, colouredNumber, colouredMark}
+use Rattle.colour.proofs.Laws.{numbers-most, numbers-grow}
 
 -- ---- Table F.1, of three kinds of value at once, as the laws of Annex E are stated
 
@@ -56,6 +55,15 @@ module _ (Cpih : ℕ) where
       table-each (λ n. n ≤ 3 * B) e Cpih
       (λ p. numbers-most (record { c0 = e 0; c1 = e 1; c2 = e 2 }) (most p 0 (omega arith), most p 1 (omega arith), most p 2 (omega arith))) i (omega arith)
 
+  -- larger numbers become larger ones
+  pub number-grows : (e e′ : ℕ → ℕ) → (Cpih ≡ 1 → (j : ℕ) → j < 3 → e j ≤ e′ j) → (i : ℕ) → e i ≤ e′ i → colouredNumber Cpih e i ≤ colouredNumber Cpih e′ i
+  unfolding colouredNumber
+  number-grows e e′ more =
+      table-pairs (λ m n. m ≤ n) e e′ Cpih
+      (λ p.
+      numbers-grow (record { c0 = e 0; c1 = e 1; c2 = e 2 }) (record { c0 = e′ 0; c1 = e′ 1; c2 = e′ 2 })
+      (more p 0 (omega arith), more p 1 (omega arith), more p 2 (omega arith)))
+
 -- ---- marks
 
 -- no component is marked
@@ -83,12 +91,20 @@ pub unmarked-rct : {m : Marks} → Unmarked m → Unmarked (marksRct m)
 unfolding marksRct
 unmarked-rct u = record { c0 = rw (u .c0, u .c1, u .c2); c1 = rw (u .c0, u .c1, u .c2); c2 = rw (u .c0, u .c1, u .c2) }
 
--- pixels that are the same where no mark is come out so
-pub rct-shielded : {p q : Pixel} {m : Marks} → (m .c0 ≡ false → p .c0 ≡ q .c0) → (m .c1 ≡ false → p .c1 ≡ q .c1) → (m .c2 ≡ false → p .c2 ≡ q .c2)
-    → (marksRct m .c0 ≡ false → inverseRct p .c0 ≡ inverseRct q .c0)
-    × (marksRct m .c1 ≡ false → inverseRct p .c1 ≡ inverseRct q .c1)
-    × (marksRct m .c2 ≡ false → inverseRct p .c2 ≡ inverseRct q .c2)
-rct-shielded {p} {q} {m} h k l = let n = rct-unmarked m in (λ e i. same (n .0 e) i .c0, λ e i. same (n .1 e) i .c1, λ e i. same (n .2 e) i .c2)
+-- component i behind Annex F, where f is F.3 for values of some kind
+abbrev pub colouredBy : {A : Type 0} → (A → A → A → A × A × A) → ℕ → (ℕ → A) → ℕ → A
+colouredBy f Cpih v = table-F1 Cpih (f (v 0) (v 1) (v 2) .0) (f (v 0) (v 1) (v 2) .1) (f (v 0) (v 1) (v 2) .2) v
+
+-- values of any kind that are the same where no mark is come out so
+pub table-shielded : {A : Type 0} (f : A → A → A → A × A × A) (Cpih : ℕ) (v w : ℕ → A) (m : ℕ → Bool) → (Cpih ≡ 1 → (j : ℕ) → j < 3 → m j ≡ false → v j ≡ w j)
+    → (i : ℕ) → (m i ≡ false → v i ≡ w i) → colouredMark Cpih m i ≡ false → colouredBy f Cpih v i ≡ colouredBy f Cpih w i
+unfolding colouredMark
+table-shielded f Cpih v w m given =
+    table-keeps (λ a b n. n ≡ false → a ≡ b) v w m Cpih
+    (λ one. let n = rct-unmarked marks in (λ e i. same one (n .0 e) i .0, λ e i. same one (n .1 e) i .1, λ e i. same one (n .2 e) i .2))
   where
-    same : Unmarked m → inverseRct p ≡ inverseRct q
-    same u = λ i. inverseRct (record { c0 = h (u .c0) i; c1 = k (u .c1) i; c2 = l (u .c2) i })
+    marks : Marks
+    marks = record { c0 = m 0; c1 = m 1; c2 = m 2 }
+
+    same : Cpih ≡ 1 → Unmarked marks → f (v 0) (v 1) (v 2) ≡ f (w 0) (w 1) (w 2)
+    same one u = λ i. f (given one 0 (omega arith) (u .c0) i) (given one 1 (omega arith) (u .c1) i) (given one 2 (omega arith) (u .c2) i)

@@ -11,7 +11,7 @@ use lib.ListN.{length}
 use Rattle.whole.specs.Cells.{cell, Same}
 use Rattle.loops.specs.Before.{before}
 use Rattle.loops.proofs.Laws.{run-carries}
-use Rattle.loops.proofs.Before.{before-goes, before-carries}
+use Rattle.loops.proofs.Before.{before-carries}
 use Rattle.rows.specs.Rows.{check, ample, first}
 use Rattle.rows.specs.declared.Verdict.{Verdict}
 use Rattle.rows.specs.declared.Verdict.the-variants.{Fine, Refused}
@@ -26,11 +26,12 @@ use Rattle.packets.specs.Ready.{Settled}
 use Rattle.packets.proofs.Alike.{WholeHeader}
 use Rattle.slices.specs.Slice.{State, Left, sliceHeaderBytes, sliceChecks, precinctsBy, slice}
 use Rattle.slices.specs.Stream.{endChecks, stream}
-use Rattle.slices.specs.Walk.{walkedOn, walkBy, walkSlice, walkSliceTurn, walkStream, slicePlace, precinctPlace}
+use Rattle.slices.specs.Walk.{walkBy, walkSlice, walkSliceTurn, walkStream, slicePlace, precinctPlace}
 use Rattle.slices.specs.Reached.{beforeSlice}
 use Rattle.slices.proofs.PrecinctLaws.{clash}
 use Rattle.slices.proofs.Laws.{slice-length}
 use Rattle.slices.proofs.WalkLaws.{slice-ends, slice-walks}
+use Rattle.slices.proofs.WalkHas.{stream-stands}
 use Rattle.slices.proofs.Alike.{slice-alike, walk-alike}
 use Rattle.slices.proofs.Same.{SameLeft}
 use Rattle.slices.proofs.Owned.{Owned, slice-local, slice-spares}
@@ -54,11 +55,6 @@ walked-slice s c t x {to} e = by (first (sliceChecks s t (x .0))) e
     by Fine e = refl
     by (Refused k) e = clash (λ i. e i .0)
 
--- the next slice stands where its declared lengths lead
-place-next : (s : List ℕ) (c : Setting) (at g : ℕ) {to : ℕ} → walkSlice s c g (slicePlace s c at g) ≡ (Fine, to) → slicePlace s c at (g + 1) ≡ to
-unfolding walkSliceTurn
-place-next s c at g e = before-goes (walkSliceTurn s c) at g (λ i. walkedOn (e i))
-
 -- ---- two streams
 
 -- a state of the damaged stream behind its first g slices: it stands at the same place, and has the same cells of all slices but slice t. The largest T may differ
@@ -80,9 +76,7 @@ module _ {s s′ : List ℕ} (c : Setting) (settled : Settled c) (whole : WholeH
 
   -- its slices stand where its walk comes to them, one behind the other
   walk-place : (g : ℕ) → g ≤ slices (c .shape) → slicePlace s c (x .0) g ≡ z g .0
-  unfolding before
-  walk-place g l =
-      before-carries (walkSliceTurn s c) (x .0) (λ g at. at ≡ z g .0) g refl (λ k m e. place-next s c (x .0) k ((λ i. walkSlice s c k (e i)) ∙ walks k (omega arith)))
+  walk-place g l = sym (stream-stands s c x fine g l)
 
   onward : (d g : ℕ) → g + d ≤ slices (c .shape) → z g .0 ≤ z (g + d) .0
   onward zero g l =

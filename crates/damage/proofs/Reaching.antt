@@ -1,24 +1,26 @@
 -- The states that the reading of a damaged page comes to, slice by slice. Assumes nothing.
-use Prim.Native.Nat.{ℕ, zero, suc, _+_, _≤_, _<_}
+use Prim.Native.Nat.{ℕ, _+_, _≤_, _<_}
 use mathlib.Core.Path.{_≡_, refl, sym, ap, _∙_}
-use mathlib.Core.Bool.{Bool, true, false}
+use mathlib.Core.Bool.{true, false}
 use mathlib.Core.List.{List}
 use native.Mathlib.Omega.{arith}
-use Rattle.loops.specs.Run.{Turn, go, stop, then}
+use Rattle.loops.specs.Run.{go, stop}
 use Rattle.loops.specs.Before.{before}
 use Rattle.loops.proofs.Before.{Turns, run-turns}
 use Rattle.loops.proofs.Follows.{go-same, stop-same, go-stop}
 use Rattle.rows.specs.Rows.{first}
 use Rattle.rows.specs.declared.Verdict.{Verdict}
 use Rattle.rows.specs.declared.Verdict.the-variants.{Fine, Refused}
-use Rattle.layout.specs.Precincts.{slices}
+use Rattle.layout.specs.Precincts.{Np, slices}
 use Rattle.layout.proofs.Members.{true-false}
 use Rattle.packets.specs.declared.Setting.{Setting}
 use Rattle.slices.specs.Slice.{State, Left, sliceHeaderBytes, sliceChecks, precinctsBy, slice}
 use Rattle.slices.specs.Stream.{ended}
-use Rattle.slices.specs.Walk.{walkBy, walkSlice}
+use Rattle.slices.specs.Walk.{walkBy, walkSlice, slicePlace, walkHas}
+use Rattle.slices.specs.Reached.{sliceHas}
 use Rattle.slices.proofs.PrecinctLaws.{clash}
 use Rattle.slices.proofs.WalkLaws.{reading-walks}
+use Rattle.slices.proofs.WalkHas.{slice-walk-has, states-stand}
 use Rattle.damage.specs.Lost.{lose}
 use Rattle.damage.specs.Stream.{refuses, behindSlice, precinctsOf, steppedOver, damagedTurn, streamBy, beforeDamaged, spoilt}
 
@@ -109,3 +111,13 @@ module _ (s : List ℕ) (c : Setting) (x : State) (fine : streamBy s c true x .0
     -- the next slice stands where the declared lengths lead
     pub place-is : beforeDamaged s c x (t + 1) .0 ≡ to
     place-is = ap (λ (y : State). y .0) (stepped t h .next) ∙ behind-place s c t to here (stepped t h .walk)
+
+  -- so each stands where the walk comes to it, whether those before it are spoilt or not
+  pub damaged-stands : (t : ℕ) → t ≤ slices (c .shape) → beforeDamaged s c x t .0 ≡ slicePlace s c (x .0) t
+  unfolding before
+  damaged-stands = states-stand s c (beforeDamaged s c x) (slices (c .shape)) (λ t h. stepped t h .walk ∙ (λ i. (Fine, sym (place-is t h) i)))
+
+  -- and the precincts of one that is not spoilt are those that the walk finds
+  pub kept-has : (t : ℕ) → t < slices (c .shape) → spoilt s c x t ≡ false → (n : ℕ) → n < Np (c .shape) t → sliceHas s c (beforeDamaged s c x t) t n ≡ walkHas s c (x .0) t n
+  kept-has t h f =
+      slice-walk-has s c (x .0) t (beforeDamaged s c x t) (damaged-stands t (omega arith)) (ap (λ (r : Left). r .0) (read-slice t h f))

@@ -2,11 +2,13 @@
 use mathlib.Core.Path.{_≡_, refl, sym, ap, _∙_}
 use mathlib.Core.Bool.{Bool, true, false, cond}
 use mathlib.Core.List.{List, [], _++_}
-use Prim.Native.Nat.{ℕ, _+_, _*_, _<_}
+use Prim.Native.Nat.{ℕ, _+_, _*_, _-_, _≤_, _<_}
 use native.Mathlib.Omega.{arith}
 use lib.IntN.{ℤ}
 use lib.ListN.{length, getD, drop, List·getD-append}
-use Rattle.rows.specs.Rows.{first, answer}
+use lib.Seq.{getD-append-add, getD-drop}
+use Rattle.rows.specs.Rows.{first, then, answer}
+use Rattle.rows.specs.declared.Check.{Check}
 use Rattle.rows.specs.declared.Verdict.{Verdict}
 use Rattle.rows.specs.declared.Verdict.the-variants.{Fine, Refused}
 use Rattle.rows.proofs.Tables.{then-fine, answer-fine}
@@ -23,9 +25,10 @@ use Rattle.planes.specs.Places.{Inside}
 use Rattle.planes.proofs.Stretches.{offset-below}
 use Rattle.planes.proofs.Planes.{planes-length, planes-at}
 use Rattle.reader.specs.declared.page.Page.{Page}
+use Rattle.reader.specs.Settings.{N}
 use Rattle.reader.specs.Decoding.{samplesFrom, handed, distancesFrom, decoded, decodedVerdict, tops, coefficients}
 use Rattle.reader.specs.Page.{headerOf, lentVerdict, verdict, pageBy, samplesBy, Reads}
-use Rattle.reader.specs.Modes.{decodedBy, verdictIn, topsIn, coefficientsOf, lostSample, lostMarks, roomChecksIn, lentVerdictIn, verdictOf, ReadsIn}
+use Rattle.reader.specs.Modes.{decodedBy, verdictIn, topsIn, coefficientsOf, lostSample, lostMarks, roomChecksIn, lentVerdictIn, verdictOf, LeavesIn, ReadsIn}
 use Rattle.reader.specs.Steps.{Opened}
 use Rattle.reader.proofs.Openings.{opened}
 use Rattle.demands.specs.Stored.{shape}
@@ -37,20 +40,30 @@ answered : (v : Verdict) (h : Header) (d : List ℕ) → pageBy v h d .answer �
 answered Fine h d = refl
 answered (Refused c) h d = refl
 
--- ---- a reading in either mode
+-- ---- a reading in either mode, by any verdicts
 
-module _ {damaged : Bool} {s a : List ℕ} {w : List ℤ} {m : List ℕ} {r : Page} {a′ : List ℕ} {w′ : List ℤ} {m′ : List ℕ} (reads : ReadsIn damaged s a w m r a′ w′ m′) where
-  pub answer-in : r .answer ≡ answer (verdictOf damaged s (length a) (length w) (length m))
-  answer-in = ap (λ (p : Page). p .answer) (reads .page) ∙ answered (verdictOf damaged s (length a) (length w) (length m)) (headerOf s) _
+module _ {damaged : Bool} {s : List ℕ} {lent all : Verdict} {a : List ℕ} {w : List ℤ} {m : List ℕ} {r : Page} {a′ : List ℕ} {w′ : List ℤ} {m′ : List ℕ}
+    (leaves : LeavesIn damaged s (headerOf s) lent all a w m r a′ w′ m′) where
+  pub answer-in : r .answer ≡ answer all
+  answer-in = ap (λ (p : Page). p .answer) (leaves .page) ∙ answered all (headerOf s) _
 
-  pub fine-in : r .answer ≡ 0 → verdictOf damaged s (length a) (length w) (length m) ≡ Fine
-  fine-in e = answer-fine (verdictOf damaged s (length a) (length w) (length m)) (sym answer-in ∙ e)
+  pub fine-in : r .answer ≡ 0 → all ≡ Fine
+  fine-in e = answer-fine all (sym answer-in ∙ e)
+
+-- ---- by those of the mode
+
+-- the header, row 5's checks, and what stands behind them
+abbrev pub judged : Bool → List ℕ → List Check → Verdict
+judged damaged s room = then (then (readingOf s .verdict) (first room)) (verdictIn s (headerOf s) damaged)
 
 -- an accepted page has an accepted header
-pub header-in : (damaged : Bool) (s : List ℕ) (a w m : ℕ) → verdictOf damaged s a w m ≡ Fine → readingOf s .verdict ≡ Fine
+pub judged-header : (damaged : Bool) (s : List ℕ) (room : List Check) → judged damaged s room ≡ Fine → readingOf s .verdict ≡ Fine
+judged-header damaged s room e =
+    then-fine (readingOf s .verdict) (first room) (then-fine (then (readingOf s .verdict) (first room)) (verdictIn s (headerOf s) damaged) e .0) .0
+
+header-in : (damaged : Bool) (s : List ℕ) (a w m : ℕ) → verdictOf damaged s a w m ≡ Fine → readingOf s .verdict ≡ Fine
 unfolding verdictOf lentVerdictIn
-header-in damaged s a w m e =
-    then-fine (readingOf s .verdict) (first (roomChecksIn damaged (headerOf s) a w m)) (then-fine (lentVerdictIn damaged s a w m) (verdictIn s (headerOf s) damaged) e .0) .0
+header-in damaged s a w m = judged-header damaged s (roomChecksIn damaged (headerOf s) a w m)
 
 -- what stands in the record, in the samples and in the marks of a page that is read
 pub record PageIn (damaged : Bool) (s a′ m′ : List ℕ) (r : Page) : Type 0 where
@@ -63,15 +76,23 @@ pub record PageIn (damaged : Bool) (s a′ m′ : List ℕ) (r : Page) : Type 0 
   -- and of a damaged page each mark that of the lost ones
   pub mark : damaged ≡ true → (i x y : ℕ) → Inside (shape s) i x y → markAt s m′ i x y ≡ bit (lostSample s (headerOf s) i x y)
 
--- a value of a component's plane, where the planes are written over the beginning of a buffer
-plane-at : (s a : List ℕ) (f : Values ℕ) (i x y : ℕ) → Inside (shape s) i x y
-    → getD (planes (shape s) f (shape s .nc) ++ drop (length (planes (shape s) f (shape s .nc))) a) (samples (shape s) i + (y * Wc (shape s) i + x)) 0 ≡ f i x y
-plane-at s a f i x y p =
-    let new = planes (shape s) f (shape s .nc) in
-    let j = samples (shape s) i + (y * Wc (shape s) i + x) in
-    let inside : j < length new =
-    omega (arith, planes-length (shape s) f (shape s .nc), offset-below (shape s) i x y (p .column) (p .row), starts-up (shape s) i (shape s .nc) (p .component)) in
-    List·getD-append new (drop (length new) a) 0 j inside ∙ planes-at (shape s) f i x y p
+-- planes that are written over the beginning of a buffer: a value of a component's plane, and a cell behind them
+module _ (s a : List ℕ) (f : Values ℕ) where
+  abbrev new : List ℕ
+  new = planes (shape s) f (shape s .nc)
+
+  pub plane-at : (i x y : ℕ) → Inside (shape s) i x y → getD (new ++ drop (length new) a) (samples (shape s) i + (y * Wc (shape s) i + x)) 0 ≡ f i x y
+  plane-at i x y p =
+      let j = samples (shape s) i + (y * Wc (shape s) i + x) in
+      let inside : j < length new =
+      omega (arith, planes-length (shape s) f (shape s .nc), offset-below (shape s) i x y (p .column) (p .row), starts-up (shape s) i (shape s .nc) (p .component)) in
+      List·getD-append new (drop (length new) a) 0 j inside ∙ planes-at (shape s) f i x y p
+
+  pub plane-behind : (n : ℕ) → N (headerOf s) ≤ n → getD (new ++ drop (length new) a) n 0 ≡ getD a n 0
+  plane-behind n l =
+      let k = length new in
+      let e : k + (n - k) ≡ n = omega (arith, planes-length (shape s) f (shape s .nc)) in
+      (λ i. getD (new ++ drop k a) (sym e i) 0) ∙ getD-append-add new (drop k a) (n - k) 0 ∙ getD-drop k a (n - k) 0 ∙ (λ i. getD a (e i) 0)
 
 pub page-in : {damaged : Bool} {s a a′ m m′ : List ℕ} {w w′ : List ℤ} {r : Page} → ReadsIn damaged s a w m r a′ w′ m′ → r .answer ≡ 0 → PageIn damaged s a′ m′ r
 unfolding verdictOf handed lostMarks
@@ -101,6 +122,10 @@ unmarked (Refused c) = refl
 pub plain-in : {s a a′ : List ℕ} {w w′ : List ℤ} {r : Page} → Reads s a w r a′ w′ → ReadsIn false s a w [] r a′ w′ []
 unfolding lentVerdictIn verdictOf decodedBy streamBy lentVerdict verdict decoded stream
 plain-in {s} {a} {w = w} x = record { page = x .page; samples = x .samples; work = x .work; marks = unmarked (verdict s (length a) (length w)) }
+
+pub in-plain : {s a a′ m′ : List ℕ} {w w′ : List ℤ} {r : Page} → ReadsIn false s a w [] r a′ w′ m′ → Reads s a w r a′ w′
+unfolding lentVerdictIn verdictOf decodedBy streamBy lentVerdict verdict decoded stream
+in-plain x = record { page = x .page; samples = x .samples; work = x .work }
 
 module _ {s a a′ : List ℕ} {w w′ : List ℤ} {r : Page} (reads : Reads s a w r a′ w′) where
   pub answer-of : r .answer ≡ answer (verdict s (length a) (length w))

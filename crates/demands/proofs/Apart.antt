@@ -1,18 +1,16 @@
 -- A sound stream and a damaged one that differ only in one slice, which is refused: every sample marked 0 is the same in both. Assumes nothing.
 use mathlib.Core.Path.{_≡_, refl, sym, ap, subst, _∙_}
-use mathlib.Core.Bool.{Bool, true, false}
+use mathlib.Core.Bool.{true, false}
 use mathlib.Core.List.{List}
 use Prim.Native.Nat.{ℕ, _+_, _*_, _<_}
 use native.Mathlib.Omega.{arith}
 use lib.IntN.{ℤ}
 use lib.ListN.{length, getD}
 use mathlib.Core.Logic.{inl}
-use Rattle.whole.specs.Cells.{cell}
 use Rattle.whole.proofs.Linear.{flags-differ}
 use Rattle.bits.proofs.Alike.{alike-part}
 use Rattle.bits.proofs.Headers.{whole-bytes}
 use Rattle.rows.specs.Rows.{answer, first, then}
-use Rattle.rows.specs.declared.Verdict.{Verdict}
 use Rattle.rows.specs.declared.Verdict.the-variants.{Fine}
 use Rattle.layout.specs.Bands.{Wc}
 use Rattle.layout.specs.Cells.{samples}
@@ -26,13 +24,12 @@ use Rattle.packets.proofs.Alike.{WholeHeader}
 use Rattle.slices.specs.Stream.{stream}
 use Rattle.damage.specs.Apart.{Differing}
 use Rattle.damage.proofs.Apart.{apart-begins, apart-fine, apart-cells}
-use Rattle.planes.specs.Values.{Coefficients}
+use Rattle.planes.specs.Values.{Coefficients, Every}
 use Rattle.planes.specs.Places.{Inside, coefficientsIn}
-use Rattle.planes.proofs.Laws.{Every}
 use Rattle.planes.proofs.Marking.{shield}
 use Rattle.reader.specs.declared.page.Page.{Page}
 use Rattle.reader.specs.Settings.{settingOf, depthOf}
-use Rattle.reader.specs.Decoding.{samplesFrom, decoded, coefficients, begun}
+use Rattle.reader.specs.Decoding.{samplesFrom, decoded, begun}
 use Rattle.reader.specs.Page.{headerOf, Reads}
 use Rattle.reader.specs.Modes.{decodedBy, verdictIn, coefficientsOf, spoiltSlice, lostAt, lostSample, roomChecksIn, lentVerdictIn, verdictOf, ReadsDamaged}
 use Rattle.reader.specs.Steps.{Opened}

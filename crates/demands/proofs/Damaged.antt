@@ -1,56 +1,48 @@
 -- The customer's demands hold of every damaged page, of its samples marked 0. Assumes nothing.
-use mathlib.Core.Path.{_≡_, refl, sym, ap, _∙_, subst}
+use mathlib.Core.Path.{_≡_, refl, sym, ap, _∙_}
 use mathlib.Core.Bool.{Bool, true, false}
 use mathlib.Core.List.{List, _++_}
-use Prim.Native.Nat.{ℕ, _+_, _*_, _-_, _≤_, _<_}
+use Prim.Native.Nat.{ℕ, _*_, _≤_, _<_}
 use native.Mathlib.Omega.{arith}
 use lib.IntN.{ℤ, pos}
 use lib.ListN.{length, getD, drop, length-replicate, List·getD-append}
-use lib.Seq.{getD-append-add, getD-drop}
-use Rattle.whole.specs.Numbers.{Near}
-use Rattle.whole.proofs.Linear.{flags-differ}
 use Rattle.rows.specs.Rows.{answer, first, then}
+use Rattle.rows.specs.declared.Check.{Check}
 use Rattle.rows.specs.declared.Verdict.{Verdict}
 use Rattle.rows.specs.declared.Verdict.the-variants.{Fine, Refused}
-use Rattle.rows.proofs.Tables.{fine-iff}
-use Rattle.rows.proofs.Low.{low}
-use Rattle.wavelet.specs.Transform.{Kind}
+use Rattle.rows.proofs.Low.{Low, low}
 use Rattle.layout.specs.Precincts.{slices}
 use Rattle.layout.proofs.Cells.{inside}
 use Rattle.header.specs.Header.{readingOf}
-use Rattle.header.specs.Table.{headerChecks}
 use Rattle.header.proofs.Rows.{header-few}
 use Rattle.loops.specs.Before.{before}
-use Rattle.slices.specs.Slice.{Left}
 use Rattle.slices.specs.Walk.{walkTable}
 use Rattle.slices.proofs.Coefficients.{ReadsOne}
-use Rattle.damage.specs.Stream.{streamBy, beforeDamaged}
-use Rattle.damage.proofs.Reaching.{damaged-left}
+use Rattle.damage.proofs.Reaching.{damaged-left, damaged-stands}
 use Rattle.damage.proofs.Laws.{damaged-tops-most}
 use Rattle.damage.proofs.Walked.{damaged-table, damaged-answer}
 use Rattle.damage.proofs.Kept.{lost-zero, kept-reads}
 use Rattle.planes.specs.Values.{Coefficients, planes}
 use Rattle.planes.specs.Marks.{bit}
-use Rattle.planes.specs.Places.{Inside, coefficientsIn}
+use Rattle.planes.specs.Places.{Inside}
 use Rattle.planes.proofs.Laws.{samples-of-same}
 use Rattle.planes.proofs.Planes.{planes-length, planes-each}
 use Rattle.planes.proofs.Marking.{shield}
 use Rattle.reader.specs.declared.page.Page.{Page}
-use Rattle.reader.specs.Settings.{settingOf, depthOf, N, roomChecks}
-use Rattle.reader.specs.Decoding.{samplesFrom, distancesFrom, begun}
+use Rattle.reader.specs.Settings.{depthOf, N}
+use Rattle.reader.specs.Decoding.{samplesFrom, begun}
 use Rattle.reader.specs.Page.{headerOf, samplesBy}
 use Rattle.reader.specs.Modes.{decodedBy, verdictIn, topsIn, coefficientsOf, lostSample, lostMarks, roomChecksIn, lentVerdictIn, verdictOf, ReadsDamaged}
 use Rattle.reader.specs.Steps.{Opened}
 use Rattle.reader.proofs.Openings.{settled, colours}
 use Rattle.reader.proofs.Lost.{row-slice}
 use Rattle.reader.proofs.Decoded.{none-yet}
-use Rattle.demands.specs.Stored.{shape, setting, beginning, Each, scaledUp, dequantisedFrom, QuantisedWhere}
+use Rattle.demands.specs.Stored.{shape, setting, beginning, Each, scaledUp, dequantisedFrom}
 use Rattle.demands.specs.Lost.{lostAt, spared}
 use Rattle.demands.specs.Damaged.{damagedStates, lost, markAt, OneDamaged, pageTable, kept, Counts, TwoDamaged, ThreeDamaged, UncutKept, ExactDamaged}
-use Rattle.demands.specs.Demands.{sampleAt, Decided}
-use Rattle.demands.proofs.Accepted.{answer-in, fine-in, PageIn, page-in}
+use Rattle.demands.proofs.Accepted.{answer-in, judged, fine-in, PageIn, plane-behind, page-in}
 use Rattle.demands.proofs.One.{place-in, samples-in, marks-in}
-use Rattle.demands.proofs.Two.{joined-tables, decided}
+use Rattle.demands.proofs.Two.{joined-tables, accepted-by, refused-by}
 use Rattle.demands.proofs.Stored.{slice-inside, Leads, own-quantised}
 use Rattle.demands.proofs.Lost.{spared-is, spared-near}
 use Rattle.demands.proofs.Exact.{distances-none}
@@ -61,22 +53,21 @@ few-then : (v w : Verdict) → answer v ≤ 6 → answer w ≤ 6 → answer (the
 few-then Fine w p q = q
 few-then (Refused c) w p q = p
 
-verdict-few : (s : List ℕ) (a w m : ℕ) → answer (verdictOf true s a w m) ≤ 6
-unfolding verdictOf lentVerdictIn decodedBy
-verdict-few s a w m =
-    few-then (then (readingOf s .verdict) (first (roomChecksIn true (headerOf s) a w m))) (verdictIn s (headerOf s) true)
-    (few-then (readingOf s .verdict) (first (roomChecksIn true (headerOf s) a w m)) (header-few s) (low (roomChecksIn true (headerOf s) a w m) (omega arith)))
-    (damaged-answer s (setting s) (begun (headerOf s)))
+pub judged-few : (s : List ℕ) (room : List Check) → Low room → answer (judged true s room) ≤ 6
+unfolding decodedBy
+judged-few s room h =
+    few-then (then (readingOf s .verdict) (first room)) (verdictIn s (headerOf s) true)
+    (few-then (readingOf s .verdict) (first room) (header-few s) (low room h)) (damaged-answer s (setting s) (begun (headerOf s)))
 
 bit-few : (b : Bool) → bit b ≤ 1
 bit-few true = omega arith
 bit-few false = omega arith
 
 pub damaged-one : {s a a′ m m′ : List ℕ} {w w′ : List ℤ} {r : Page} → ReadsDamaged s a w m r a′ w′ m′ → OneDamaged s a w m r a′ w′ m′
-unfolding lostMarks
+unfolding lostMarks verdictOf lentVerdictIn
 damaged-one {s} {a} {a′} {m} {m′} {w} {w′} {r} reads =
     record {
-      answer = omega (arith, answer-in reads, verdict-few s (length a) (length w) (length m));
+      answer = omega (arith, answer-in reads, judged-few s (roomChecksIn true (headerOf s) (length a) (length w) (length m)) (omega arith));
       place = place-in reads;
       samples = samples-in reads;
       marks = marks-in reads;
@@ -84,7 +75,7 @@ damaged-one {s} {a} {a′} {m} {m′} {w} {w′} {r} reads =
       marked = λ e n l.
           let new = planes (shape s) f (shape s .nc) in
           rw (written e) (rw (List·getD-append new (drop (length new) m) 0 n (omega (arith, long))) (planes-each (page-in reads e .opened .shape) f (λ (k : ℕ). k ≤ 1) (λ i x y p. bit-few (lostSample s (headerOf s) i x y)) n l));
-      rest = λ e n l. ap (λ (q : List ℕ). getD q n 0) (written e) ∙ behind n l;
+      rest = λ e n l. ap (λ (q : List ℕ). getD q n 0) (written e) ∙ plane-behind s m f n l;
     }
   where
     f : ℕ → ℕ → ℕ → ℕ
@@ -96,13 +87,6 @@ damaged-one {s} {a} {a′} {m} {m′} {w} {w′} {r} reads =
     written : r .answer ≡ 0 → m′ ≡ planes (shape s) f (shape s .nc) ++ drop (length (planes (shape s) f (shape s .nc))) m
     written e = reads .marks ∙ (λ i. samplesBy (fine-in reads e i) (lostMarks s (headerOf s)) m)
 
-    behind : (n : ℕ) → N (headerOf s) ≤ n → getD (planes (shape s) f (shape s .nc) ++ drop (length (planes (shape s) f (shape s .nc))) m) n 0 ≡ getD m n 0
-    behind n l =
-        let new = planes (shape s) f (shape s .nc) in
-        let k = length new in
-        let e : k + (n - k) ≡ n = omega (arith, long) in
-        (λ i. getD (new ++ drop k m) (sym e i) 0) ∙ getD-append-add new (drop k m) (n - k) 0 ∙ getD-drop k m (n - k) 0 ∙ (λ i. getD m (e i) 0)
-
 -- ---- demand 2
 
 page-verdict : (s : List ℕ) (a w m : ℕ) → verdictOf true s a w m ≡ first (pageTable s a w m)
@@ -112,17 +96,17 @@ page-verdict s a w m =
 
 -- what the slices of a page that is read leave
 module _ {s : List ℕ} (o : Opened s (headerOf s)) (fine : verdictIn s (headerOf s) true ≡ Fine) where
-  leads : Leads s (damagedStates s) (topsIn s (headerOf s) true) (decodedBy s (headerOf s) true .1 .2)
+  pub leads : Leads s (damagedStates s) (topsIn s (headerOf s) true) (decodedBy s (headerOf s) true .1 .2)
   unfolding decodedBy before
   leads =
       let last = sym (damaged-left s (setting s) (beginning s) fine) in
-      record { from = refl; largest = λ i. last i .1 .1; left = λ i. last i .1 .2 }
+      record { from = refl; stands = damaged-stands s (setting s) (beginning s) fine; largest = λ i. last i .1 .1; left = λ i. last i .1 .2 }
 
-  reads-kept : (t : ℕ) → t < slices (shape s) → lost s t ≡ false → ReadsOne s (setting s) (damagedStates s) t
+  pub reads-kept : (t : ℕ) → t < slices (shape s) → lost s t ≡ false → ReadsOne s (setting s) (damagedStates s) t
   unfolding decodedBy
   reads-kept t l e = kept-reads s (setting s) (settled o) (beginning s) fine t l e
 
-  zeros : Each s (λ i k dx dy x y. lostAt s (lost s) i k dx dy x y ≡ true → coefficientsOf s (headerOf s) true i k dx dy x y ≡ pos 0)
+  pub zeros : Each s (λ i k dx dy x y. lostAt s (lost s) i k dx dy x y ≡ true → coefficientsOf s (headerOf s) true i k dx dy x y ≡ pos 0)
   unfolding decodedBy
   zeros i h k dx dy x y d e =
       let p = inside d in
@@ -159,11 +143,10 @@ mark-none {s} page i x y p e = unmarked (lostSample s (headerOf s) i x y) (sym (
 pub damaged-two : {s a a′ m m′ : List ℕ} {w w′ : List ℤ} {r : Page} → ReadsDamaged s a w m r a′ w′ m′ → TwoDamaged s a w m r a′ m′
 damaged-two {s} {a} {m = m} {w = w} reads =
     let t = pageTable s (length a) (length w) (length m) in
-    let v = verdictOf true s (length a) (length w) (length m) in
-    let tv : v ≡ first t = page-verdict s (length a) (length w) (length m) in
+    let tv = page-verdict s (length a) (length w) (length m) in
     record {
-      accepted = (λ e. fine-iff t .0 (sym tv ∙ fine-in reads e), λ u. answer-in reads ∙ ap answer (tv ∙ fine-iff t .1 u));
-      refused = λ some. subst (Decided t) (sym (reads .page)) (decided t v (headerOf s) _ tv (λ e. some (answer-in reads ∙ e)));
+      accepted = accepted-by reads t tv;
+      refused = refused-by reads t tv;
       sample = λ e i x y p. let page = page-in reads e in page .sample i x y p ∙ sample-kept (page .opened) (page .fine) i x y p;
       mark = λ e i x y p. page-in reads e .mark refl i x y p;
       shield = λ e C given i x y p none.
@@ -196,14 +179,14 @@ tops-none s fine uncut b =
     damaged-tops-most s (setting s) b 0 (beginning s) fine (λ t l sound n k below held. omega (arith, uncut t l sound n k b below held)) (omega (arith, none-yet b)) in
     omega (arith, most)
 
+pub damaged-record-exact : {s a′ m′ : List ℕ} {r : Page} → PageIn true s a′ m′ r → UncutKept s → (i : ℕ) → getD (r .distance) i 0 ≡ 0
+damaged-record-exact {s} page uncut i =
+    ap (λ (l : List ℕ). getD l i 0) (page .distances) ∙ distances-none (page .opened) (topsIn s (headerOf s) true) (tops-none s (page .fine) uncut) i
+
 pub damaged-exact : {s a a′ m m′ : List ℕ} {w w′ : List ℤ} {r : Page} → ReadsDamaged s a w m r a′ w′ m′ → r .answer ≡ 0 → UncutKept s → ExactDamaged s a′ m′ r
-damaged-exact {s} {r = r} reads e uncut =
+damaged-exact reads e uncut =
+    let none = damaged-record-exact (page-in reads e) uncut in
     record {
       distance = none;
       sample = λ C q i x y p unlost. let near = damaged-three reads e .near C q i x y p unlost in omega (arith, none i, near .over, near .under);
     }
-  where
-    none : (i : ℕ) → getD (r .distance) i 0 ≡ 0
-    none i =
-        let page = page-in reads e in
-        ap (λ (l : List ℕ). getD l i 0) (page .distances) ∙ distances-none (page .opened) (topsIn s (headerOf s) true) (tops-none s (page .fine) uncut) i

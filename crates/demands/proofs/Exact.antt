@@ -18,7 +18,7 @@ use Rattle.reader.proofs.Decoded.{none-yet}
 use Rattle.demands.specs.Stored.{shape, setting, beginning}
 use Rattle.demands.specs.Uncut.{Uncut}
 use Rattle.demands.specs.Demands.{Exact}
-use Rattle.demands.proofs.Accepted.{page-read}
+use Rattle.demands.proofs.Accepted.{PageRead, page-read}
 use Rattle.demands.proofs.Three.{demand-three}
 
 -- the largest T of each band is 0 then
@@ -36,18 +36,18 @@ distances-none {s} o tops none i =
     let h = headerOf s in
     distances-exact (shape s) (h .picture .fq) tops (o .shape) none (h .picture .cpih) (h .picture .bw) (depthOf h) i
 
+-- so are those of the record
+pub record-exact : {s a′ : List ℕ} {r : Page} → PageRead s a′ r → Uncut s → (i : ℕ) → getD (r .distance) i 0 ≡ 0
+record-exact {s} page uncut i =
+    ap (λ (l : List ℕ). getD l i 0) (page .distances) ∙ distances-none (page .opened) (tops s (headerOf s)) (tops-none s (page .fine) uncut) i
+
 -- ---- the page is exact
 
 -- so where no plane was cut off, the page is that of the coefficients before quantisation
 pub exact : {s a a′ : List ℕ} {w w′ : List ℤ} {r : Page} → Reads s a w r a′ w′ → r .answer ≡ 0 → Uncut s → Exact s a′ r
-exact {s} {r = r} read accepted uncut =
+exact read accepted uncut =
+    let none = record-exact (page-read read accepted) uncut in
     record {
       distance = none;
       sample = λ C q i x y p. let near = demand-three read accepted .near C q i x y p in omega (arith, none i, near .over, near .under);
     }
-  where
-    none : (i : ℕ) → getD (r .distance) i 0 ≡ 0
-    none i =
-        let page = page-read read accepted in
-        ap (λ (l : List ℕ). getD l i 0) (page .distances)
-        ∙ distances-none (page .opened) (tops s (headerOf s)) (tops-none s (page .fine) uncut) i

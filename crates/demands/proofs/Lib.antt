@@ -4,12 +4,12 @@ pub mod Accepted
 pub mod Stored
 pub mod One
 pub mod Two
-pub mod Colours
 pub mod Three
 pub mod Lost
 pub mod Exact
 pub mod Damaged
 pub mod Whole
+pub mod Places
 pub mod Apart
 pub mod Walked
 pub mod Caption

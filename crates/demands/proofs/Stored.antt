@@ -23,15 +23,19 @@ use Rattle.layout.proofs.Sums.{bands-most}
 use Rattle.layout.proofs.Cells.{Exists}
 use Rattle.layout.proofs.Cover.{column-of, place-of}
 use Rattle.layout.proofs.Once.{Named as NamedLine, one-line}
+use Rattle.packets.specs.Precincts.{T}
 use Rattle.packets.proofs.Addresses.{Addressed}
 use Rattle.packets.proofs.Lines.{band-parts}
 use Rattle.slices.specs.Slice.{State}
 use Rattle.slices.specs.Reached.{slicePlanes, sliceIndex}
+use Rattle.slices.specs.Walk.{slicePlace}
 use Rattle.slices.proofs.Reaching.{stream-left}
+use Rattle.slices.proofs.WalkHas.{slice-walk-has, stream-stands}
 use Rattle.slices.proofs.PrecinctCoefficients.{Stored}
 use Rattle.slices.proofs.Coefficients.{ReadsOne, stream-reads, number-is, ownPlace, ownLine, states-coefficients}
 use Rattle.planes.specs.Places.{coefficientsIn}
 use Rattle.distances.proofs.Types.{type-exists, type-cell}
+use Rattle.places.specs.Own.{truncationAt}
 use Rattle.reader.specs.Settings.{N}
 use Rattle.reader.specs.Decoding.{decoded, decodedVerdict, tops, cells}
 use Rattle.reader.specs.Page.{headerOf, Reads}
@@ -52,9 +56,10 @@ module _ {s : List ℕ} (o : Opened s (headerOf s)) {i : ℕ} (h : i < shape s .
   pub slice-inside : sliceWith (shape s) (β s i k dx dy x y) i x y < slices (shape s)
   slice-inside = number-is s (setting s) (settled o) h exists .slice
 
--- states one after the other, from where the slices begin: behind the last slice are these largest T and these cells
+-- states one after the other, from where the slices begin, each where the walk comes to its slice: behind the last slice are these largest T and these cells
 pub record Leads (s : List ℕ) (z : ℕ → State) (tops : List ℕ) (cells : List ℤ) : Type 0 where
   pub from : z 0 ≡ beginning s
+  pub stands : (t : ℕ) → t ≤ slices (shape s) → z t .0 ≡ slicePlace s (setting s) (headerOf s .slice) t
   pub largest : z (slices (shape s)) .1 ≡ tops
   pub left : z (slices (shape s)) .2 ≡ cells
 
@@ -124,6 +129,15 @@ module _ {s : List ℕ} (o : Opened s (headerOf s)) {z : ℕ → State} {tops : 
   unfolding truncationFrom
   largest-known = stored .largest
 
+  -- the walk finds its precinct, and so its T
+  pub truncation-walks : truncationFrom s z i k dx dy x y ≡ truncationAt s (setting s) (headerOf s .slice) i k dx dy x y
+  unfolding truncationFrom truncationAt
+  truncation-walks =
+      let found =
+      slice-walk-has s (setting s) (headerOf s .slice) t (z t) (w .stands t (omega (arith, slice-inside o h d))) (λ m. reads .own m .0) n
+      (number-is s (setting s) (settled o) h (exists o h d) .precinct) in
+      λ m. T (setting s) (found m) (band (shape s) b i)
+
   on-line : OnLineFrom s z i k dx dy x y (slotWith (shape s) b i x y) (candidateWith (shape s) b i x y)
   on-line =
       subst (λ (q : ℕ × ℕ). OnLineFrom s z i k dx dy x y (q .0) (q .1)) (λ n. (at-line .slot-is n, at-line .j-is n))
@@ -171,7 +185,7 @@ module _ {s : List ℕ} (o : Opened s (headerOf s)) (fine : decodedVerdict s (he
   unfolding decoded before
   plain-leads =
       let left = stream-left s (setting s) (beginning s) fine in
-      record { from = refl; largest = λ n. sym left n .1 .1; left = λ n. sym left n .1 .2 }
+      record { from = refl; stands = stream-stands s (setting s) (beginning s) fine; largest = λ n. sym left n .1 .1; left = λ n. sym left n .1 .2 }
 
   pub plain-reads : {i : ℕ} (h : i < shape s .nc) {k : Kind} {dx dy x y : ℕ} (d : Coefficient (Wc (shape s) i) (Hc (shape s) i) (N′x (shape s) i) (N′y (shape s) i) k dx dy x y)
       → ReadsOne s (setting s) (plainStates s) (sliceWith (shape s) (β s i k dx dy x y) i x y)

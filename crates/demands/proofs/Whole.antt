@@ -1,22 +1,18 @@
 -- A page that `read` reads is read alike in the mode for damaged pages, and no sample of it is marked. Assumes nothing.
-use mathlib.Core.Path.{_≡_, refl, sym, ap, _∙_}
-use mathlib.Core.Bool.{Bool, true, false}
+use mathlib.Core.Path.{_≡_, sym, ap, _∙_}
+use mathlib.Core.Bool.{true, false}
 use mathlib.Core.List.{List, [], _∷_, _++_}
-use Prim.Native.Nat.{ℕ, _+_, _*_, _≤_, _<_}
+use Prim.Native.Nat.{ℕ, _*_}
 use native.Mathlib.Omega.{arith}
 use lib.IntN.{ℤ}
-use lib.ListN.{length, getD, drop, replicate, length-replicate, getD-replicate}
+use lib.ListN.{length, drop, replicate, length-replicate, getD-replicate}
 use lib.Seq.{ext-getD}
 use Rattle.rows.specs.Rows.{check, ample, first, then}
-use Rattle.rows.specs.Tables.{Held}
-use Rattle.rows.specs.declared.Verdict.{Verdict}
-use Rattle.rows.specs.declared.Verdict.the-variants.{Fine, Refused}
+use Rattle.rows.specs.declared.Verdict.the-variants.{Fine}
 use Rattle.rows.specs.declared.Row.the-variants.{Lent}
 use Rattle.rows.specs.declared.Field.the-variants.{Marks}
-use Rattle.rows.proofs.Tables.{then-fine, held, held-iff, first-append}
+use Rattle.rows.proofs.Tables.{then-fine, first-append}
 use Rattle.header.specs.Header.{readingOf}
-use Rattle.slices.specs.Slice.{Left, State}
-use Rattle.damage.specs.Stream.{streamBy}
 use Rattle.damage.proofs.Walked.{damaged-same, damaged-unspoilt}
 use Rattle.planes.specs.Values.{planes}
 use Rattle.planes.specs.Marks.{bit}
@@ -25,9 +21,9 @@ use Rattle.planes.proofs.Planes.{planes-length, planes-each}
 use Rattle.planes.proofs.Marking.{no-marks}
 use Rattle.reader.specs.declared.page.Page.{Page}
 use Rattle.reader.specs.Settings.{N, roomChecks}
-use Rattle.reader.specs.Decoding.{handed, distancesFrom, decoded, decodedVerdict, begun}
+use Rattle.reader.specs.Decoding.{handed, distancesFrom, decoded, decodedVerdict}
 use Rattle.reader.specs.Page.{headerOf, lentVerdict, verdict, pageBy, samplesBy, workBy, Reads}
-use Rattle.reader.specs.Modes.{decodedBy, verdictIn, lostAt, lostSample, lostMarks, roomChecksIn, lentVerdictIn, verdictOf, ReadsDamaged}
+use Rattle.reader.specs.Modes.{decodedBy, lostAt, lostSample, lostMarks, roomChecksIn, lentVerdictIn, verdictOf, ReadsDamaged}
 use Rattle.reader.specs.Steps.{Opened}
 use Rattle.reader.proofs.Openings.{colours}
 use Rattle.demands.specs.Stored.{shape, setting, beginning}
@@ -43,7 +39,7 @@ module _ {s : List ℕ} (o : Opened s (headerOf s)) (fine : decodedVerdict s (he
       let e : decoded s (headerOf s) ≡ (Fine, decoded s (headerOf s) .1) = λ i. (fine i, decoded s (headerOf s) .1) in
       damaged-same s (setting s) (beginning s) (decoded s (headerOf s) .1) e ∙ sym e
 
-  unspoilt : (i x y : ℕ) → Inside (shape s) i x y → lostSample s (headerOf s) i x y ≡ false
+  pub unspoilt : (i x y : ℕ) → Inside (shape s) i x y → lostSample s (headerOf s) i x y ≡ false
   unfolding lostSample decoded
   unspoilt =
       no-marks (o .shape) (colours (o .accepted .ranges)) (lostAt s (headerOf s))

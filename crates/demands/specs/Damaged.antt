@@ -5,16 +5,15 @@ use mathlib.Core.Bool.{Bool, true, false}
 use mathlib.Core.List.{List, _++_}
 use mathlib.Core.Logic.{_↔_}
 use mathlib.Core.Path.{_≡_}
-use Prim.Native.Nat.{ℕ, _+_, _*_, _≤_, _<_}
+use Prim.Native.Nat.{ℕ, _*_, _≤_, _<_}
 use lib.IntN.{ℤ}
 use lib.ListN.{length, getD, drop, replicate}
 use Rattle.whole.specs.Numbers.{Near}
 use Rattle.rows.specs.declared.Check.{Check}
 use Rattle.rows.specs.Tables.{Unbroken}
 use Rattle.wavelet.specs.Transform.{Kind}
-use Rattle.layout.specs.Bands.{Wc, NL}
+use Rattle.layout.specs.Bands.{NL}
 use Rattle.layout.specs.Precincts.{Np, slices}
-use Rattle.layout.specs.Cells.{samples}
 use Rattle.header.specs.Table.{headerChecks}
 use Rattle.packets.specs.Precincts.{T}
 use Rattle.slices.specs.Precinct.{holds}
@@ -23,7 +22,7 @@ use Rattle.slices.specs.Reached.{sliceHas}
 use Rattle.slices.specs.Walk.{walkTable}
 use Rattle.damage.specs.Stream.{beforeDamaged}
 use Rattle.damage.specs.Apart.{Differing}
-use Rattle.planes.specs.Values.{Coefficients}
+use Rattle.planes.specs.Values.{Coefficients, Values, inPlanes}
 use Rattle.planes.specs.Marks.{bit}
 use Rattle.planes.specs.Places.{Inside}
 use Rattle.reader.specs.declared.page.Page.{Page}
@@ -45,8 +44,8 @@ module _ (s : List ℕ) where
   lost = spoiltSlice s (headerOf s)
 
 -- the mark of the sample of component i in column x and row y
-abbrev pub markAt : List ℕ → List ℕ → ℕ → ℕ → ℕ → ℕ
-markAt s m′ i x y = getD m′ (samples (shape s) i + (y * Wc (shape s) i + x)) 0
+abbrev pub markAt : List ℕ → List ℕ → Values ℕ
+markAt s m′ = inPlanes (shape s) m′
 
 -- ---- demand 1
 

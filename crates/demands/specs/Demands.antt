@@ -3,7 +3,7 @@
 use mathlib.Core.Path.{_≡_}
 use mathlib.Core.Logic.{_↔_}
 use mathlib.Core.List.{List}
-use Prim.Native.Nat.{ℕ, _+_, _*_, _≤_}
+use Prim.Native.Nat.{ℕ, _*_, _≤_}
 use lib.IntN.{ℤ, natAbs}
 use lib.ListN.{length, getD}
 use Rattle.whole.specs.Numbers.{Near}
@@ -12,22 +12,20 @@ use Rattle.rows.specs.declared.Check.{Check}
 use Rattle.rows.specs.Tables.{Unbroken, FirstBroken}
 use Rattle.quantiser.specs.Inverse.{coefficientOf, scaled, Carried}
 use Rattle.wavelet.specs.Transform.{Kind}
-use Rattle.layout.specs.Bands.{Wc}
-use Rattle.layout.specs.Cells.{samples}
 use Rattle.slices.specs.Slice.{State}
-use Rattle.planes.specs.Values.{Coefficients}
+use Rattle.planes.specs.Values.{Coefficients, Values, inPlanes}
 use Rattle.planes.specs.Places.{Inside}
 use Rattle.reader.specs.declared.page.Page.{Page}
 use Rattle.reader.specs.Settings.{N}
 use Rattle.reader.specs.Decoding.{samplesFrom, coefficients}
 use Rattle.reader.specs.Page.{headerOf, lentVerdict, workBy}
+use Rattle.reader.specs.Places.{placeDistance}
 use Rattle.demands.specs.Stored.{slotWith, candidateWith, shape, setting, β, scaledUp, truncationFrom, planesFrom, storedFrom, OnLineFrom, dequantisedFrom, plainStates, dequantised, Quantised}
 use Rattle.demands.specs.Table.{tableOf}
-use Rattle.demands.specs.Places.{placeDistance}
 
 -- the sample of component i in column x and row y: 'samples stand component by component, row by row'
-abbrev pub sampleAt : List ℕ → List ℕ → ℕ → ℕ → ℕ → ℕ
-sampleAt s a′ i x y = getD a′ (samples (shape s) i + (y * Wc (shape s) i + x)) 0
+abbrev pub sampleAt : List ℕ → List ℕ → Values ℕ
+sampleAt s a′ = inPlanes (shape s) a′
 
 -- ---- demand 1: 'every stream, damaged or foreign, is read or refused by a number of document 01, with the place. A refused page leaves the sample buffer
 -- untouched, and the work buffer as document 01 states'
@@ -91,7 +89,7 @@ pub record Three (s a′ : List ℕ) (r : Page) : Type 0 where
       → Near (getD (r .distance) i 0) (sampleAt s a′ i x y) (samplesFrom (headerOf s) (scaledUp s C) i x y)
   -- and within the distance that document 01's rule gives its own place
   pub near-place : (C : Coefficients) → Quantised s C → (i x y : ℕ) → Inside (shape s) i x y
-      → Near (placeDistance s i x y) (sampleAt s a′ i x y) (samplesFrom (headerOf s) (scaledUp s C) i x y)
+      → Near (placeDistance s (headerOf s) i x y) (sampleAt s a′ i x y) (samplesFrom (headerOf s) (scaledUp s C) i x y)
   -- there are such coefficients: those that the page itself gives
   pub some : Quantised s (dequantised s)
 

@@ -3,7 +3,7 @@ pub mod Stored
 pub mod Lost
 pub mod Table
 pub mod Uncut
-pub mod Places
 pub mod Demands
 pub mod Caption
 pub mod Damaged
+pub mod Places

@@ -3,16 +3,15 @@
 use mathlib.Core.Path.{_≡_}
 use mathlib.Core.Bool.{true}
 use mathlib.Core.List.{List}
-use Prim.Native.Nat.{ℕ, _+_, _-_, _*_, _/_, _%_, _^_, _<_, max}
+use Prim.Native.Nat.{ℕ, _*_, _/_, _%_, _^_, _<_, max}
 use lib.IntN.{ℤ, natAbs}
 use Rattle.whole.specs.Numbers.{ceilDiv}
 use Rattle.quantiser.specs.Inverse.{coefficientOf, scaled}
 use Rattle.quantiser.specs.Forward.{indexOf}
 use Rattle.wavelet.specs.Transform.{Kind}
-use Rattle.wavelet.specs.Bands.{Coefficient}
 use Rattle.layout.specs.declared.Shape.{Shape}
-use Rattle.layout.specs.Bands.{sx, Wc, Hc, N′x, N′y, dx as across, band}
-use Rattle.layout.specs.Precincts.{Cs, Npx, row-with, slice-with, slice-top}
+use Rattle.layout.specs.Bands.{sx, dx as across, band}
+use Rattle.layout.specs.Precincts.{Cs, slice-with, number-with}
 use Rattle.layout.specs.Slots.{slots, candidates, line-with, slot-with, candidate-with}
 use Rattle.bits.specs.Groups.{Ng}
 use Rattle.shapes.specs.Shapes.{shapeOf}
@@ -22,7 +21,7 @@ use Rattle.packets.specs.Precincts.{T}
 use Rattle.packets.specs.Passes.{line}
 use Rattle.slices.specs.Slice.{State}
 use Rattle.slices.specs.Reached.{sliceHas, slicePlanes, sliceIndex, beforeSlice}
-use Rattle.planes.specs.Values.{Coefficients}
+use Rattle.planes.specs.Values.{Coefficients, Every}
 use Rattle.distances.specs.Rule.{type-of}
 use Rattle.reader.specs.Settings.{settingOf}
 use Rattle.reader.specs.Decoding.{begun}
@@ -31,19 +30,12 @@ use Rattle.reader.specs.Page.{headerOf}
 -- ---- Table E.2: where the standard has the coefficient in column x and row y of filter type β of component i
 
 module _ (s : Shape) (β i x y : ℕ) where
-  -- its precinct p, by its row and column (B.5)
-  abbrev pub rowWith : ℕ
-  rowWith = row-with s β i y
-
-  abbrev pub columnWith : ℕ
-  columnWith = x * sx s i * 2 ^ across s β / Cs s
-
-  -- which is this one of this slice (B.11)
+  -- its slice (B.11), and the number of its precinct there (B.5)
   abbrev pub sliceWith : ℕ
   sliceWith = slice-with s β i y
 
   abbrev pub numberWith : ℕ
-  numberWith = (rowWith - slice-top s sliceWith) * Npx s + columnWith
+  numberWith = number-with s β i x y
 
   -- its line there, by the packet that has it (Table B.4) and its number among the lines that the packet can have. λ is y umod 2^(N_L,y − log2 s_y − d_y), and
   -- Table B.4 counts s_y lines for each
@@ -76,9 +68,7 @@ module _ (s : List ℕ) where
 
   -- a property of each coefficient that the components have
   abbrev pub Each : (ℕ → Kind → ℕ → ℕ → ℕ → ℕ → Type 0) → Type 0
-  Each P =
-      (i : ℕ) → i < shape .nc → (k : Kind) (dx dy x y : ℕ) → Coefficient (Wc shape i) (Hc shape i) (N′x shape i) (N′y shape i) k dx dy x y
-      → P i k dx dy x y
+  Each = Every shape
 
   -- E.3: ×2^Fq, the first of the inverse transforms
   abbrev pub scaledUp : Coefficients → Coefficients

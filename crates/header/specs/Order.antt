@@ -7,7 +7,7 @@ use mathlib.Core.Path.{_≡_}
 use Rattle.rows.specs.Rows.{number, first}
 use Rattle.rows.specs.declared.Check.{Check}
 use Rattle.rows.specs.declared.Field.{Field}
-use Rattle.rows.specs.declared.Field.the-variants.{Soc, Cap, Lcap, Pih, Lpih, Lcod, Wf, Hf, Cw, Hsl, Nc, Ng, Ss, Bw, Fq, Br, Fslc, Ppoc, Cpih, Nlx, Nly, Qpih, Fs, Rm, Next, Cdt, Wgt, Nlt, Cwd, Cts, Crg, Tpc, Wgr, Sli, Lcdt, B, Sx, Sy, Lwgt, G, Lcom, Tcom, Lcrg, Lcwd, Sd, Samples, Work, Marks, Slh, Lslh, Ysl, Lprc, Q, R, D, Packet, Dr, Significance, Counts, Data, Signs, Rest, Eoc, Tail}
+use Rattle.rows.specs.declared.Field.the-variants.{Soc, Cap, Lcap, Pih, Lpih, Lcod, Wf, Hf, Cw, Hsl, Nc, Ng, Ss, Bw, Fq, Br, Fslc, Ppoc, Cpih, Nlx, Nly, Qpih, Fs, Rm, Next, Cdt, Wgt, Nlt, Cwd, Cts, Crg, Tpc, Wgr, Sli, Lcdt, B, Sx, Sy, Lwgt, G, Lcom, Tcom, Lcrg, Lcwd, Sd, Samples, Work, Marks, Distances, Slh, Lslh, Ysl, Lprc, Q, R, D, Packet, Dr, Significance, Counts, Data, Signs, Rest, Eoc, Tail}
 use Rattle.rows.specs.declared.Verdict.the-variants.{Fine}
 use Rattle.picture.specs.Opening.{startChecks}
 use Rattle.header.specs.Table.{headerChecks}
@@ -64,6 +64,7 @@ bit Sd = 0
 bit Samples = 0
 bit Work = 0
 bit Marks = 0
+bit Distances = 0
 bit Slh = 0
 bit Lslh = 0
 bit Ysl = 0

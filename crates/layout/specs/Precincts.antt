@@ -85,3 +85,10 @@ slice-top s t = t * s .hsl
 -- as many slices as hold every row
 unfoldable pub slices : Shape → ℕ
 slices s = ceilDiv (Npy s) (s .hsl)
+
+-- Table E.2 and B.11: the column of precincts that has column x of the band, and the number, in its slice, of the precinct that has the coefficient there
+abbrev pub column-with : Shape → ℕ → ℕ → ℕ → ℕ
+column-with s β i x = x * sx s i * 2 ^ dx s β / Cs s
+
+abbrev pub number-with : Shape → ℕ → ℕ → ℕ → ℕ → ℕ
+number-with s β i x y = (row-with s β i y - slice-top s (slice-with s β i y)) * Npx s + column-with s β i x

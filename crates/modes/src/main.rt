@@ -1,40 +1,32 @@
-// Reads a page from standard input in the mode that a letter before the stream names, and prints what the mode gives. The stream has at most 16,384 bytes; lent
-// are 2,048 sample cells, 4,096 work cells and 2,048 marks.
+// Reads a page from standard input in the mode that a letter before the stream names, and prints what the mode gives. The stream has at most 16,384 bytes.
 //   d  the page in spite of damage: its text, and its marks
+//   p  the page with a distance for each sample: its text, and the distances
+//   q  both: its text, its marks, and the distances
 use libc::STDIN_FILENO;
 use libc::STDOUT_FILENO;
+use show::modes::Mode;
 
 fn print(text: &[u8]) {
     io::write_all(STDOUT_FILENO, text);
 }
 
-// Whether the stream is too long to be read, which is then said.
-fn too_long(stream: &[u8]) -> bool {
+fn print_page(mode: Mode, stream: &[u8]) {
     if 16384 < stream.len() {
         print(b"input too long\n");
-        return true;
-    }
-    false
-}
-
-fn print_damaged(stream: &[u8]) {
-    if too_long(stream) {
         return;
     }
-    let mut samples = [0u16; 2048];
-    let mut work = [0i64; 4096];
-    let mut marks = [0u8; 2048];
-    let page = reader::read_damaged(stream, &mut samples, &mut work, &mut marks);
-    // 2,048 samples of five digits and as many marks, each with a space or a line's end, and eight headings take less
     let mut text = io::large_buffer();
-    let size = show::damaged_text(page, &samples, &marks, &mut text);
+    let told = show::modes::text_of(mode, stream, &mut text);
+    let size = told.size;
     print(&text[..size]);
 }
 
 // The letter is judged first, then the stream's length.
 fn print_mode(letter: u8, stream: &[u8]) {
     match letter {
-        b'd' => print_damaged(stream),
+        b'd' => print_page(Mode::Damaged, stream),
+        b'p' => print_page(Mode::Places, stream),
+        b'q' => print_page(Mode::DamagedPlaces, stream),
         _ => print(b"unknown mode\n"),
     }
 }

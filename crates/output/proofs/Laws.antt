@@ -1,18 +1,23 @@
 -- The laws of G.3: what its constants make, distance and range. Assumes nothing.
-use mathlib.Core.Path.{_≡_, refl}
-use mathlib.Core.Bool.{true, false}
+use mathlib.Core.Path.{_≡_, refl, sym, ap, ap₂, _∙_}
+use mathlib.Core.Bool.{true, false, cond}
+use mathlib.Core.List.{List}
 use Prim.Native.Nat.{ℕ, _+_, _-_, _/_, _^_, _≤_, _<_, min}
-use native.Mathlib.Nat.{div-eq-of-lt}
+use native.Mathlib.Nat.{div-eq-of-lt, le-div-iff-mul-le, div-mul-le-self}
+use native.Mathlib.Numerals.{add-one}
 use native.Mathlib.Omega.{arith}
+use lib.Dec.{eqb}
 use lib.IntN.{ℤ, pos, negsuc, natAbs, _+ℤ_, +ℤ-assoc}
+use lib.ListN.{length, getD, set}
 use lib.Pow.{pow-pos, pow-mono}
 use lib.Signed.{ltZ}
-use Rattle.whole.specs.Numbers.{Within, Near}
+use Rattle.whole.specs.Numbers.{ceilDiv, Within, Near}
 use Rattle.whole.proofs.Linear.{ofDist, ltZ-true}
 use Rattle.whole.proofs.Machine.{pos-is}
+use Rattle.whole.proofs.Passes.{mapped, mapped-step}
 use Rattle.whole.proofs.Within.{within-refl, within-le, within-add, within-shr}
-use Rattle.output.specs.Linear.{levelled, rescaled, clamp, sample, distance, Precisions}
-use Rattle.output.specs.Constants.{scaleOf, byScale, Usable}
+use Rattle.output.specs.Linear.{levelled, rescaled, clamp, sample, distance, outputOf, Precisions}
+use Rattle.output.specs.Constants.{scaleOf, byScale, numberByScale, outputByScale, Usable}
 
 -- ---- document 01, distance rules 4 and 5
 
@@ -39,6 +44,14 @@ distance-exact Bw B = omega (arith, div-eq-of-lt (none (2 ^ (Bw - B)) (pow-pos (
     none : (m : ℕ) → 0 < m → 0 + (m - 1) < m
     none m h = omega arith
 
+ceil-grows : (m : ℕ) {d e : ℕ} → 0 < m → d ≤ e → ceilDiv d m ≤ ceilDiv e m
+ceil-grows m {d} h l = le-div-iff-mul-le h .1 (omega (arith, div-mul-le-self (d + (m - 1)) m))
+
+-- a larger number has a larger distance
+pub distance-grows : (Bw B : ℕ) {d e : ℕ} → d ≤ e → distance Bw B d ≤ distance Bw B e
+unfolding distance
+distance-grows Bw B l = omega (arith, ceil-grows (2 ^ (Bw - B)) (pow-pos (Bw - B)) l)
+
 -- ---- samples have B bits
 
 clamp-most : (m : ℕ) (v : ℤ) → clamp m v ≤ m
@@ -60,9 +73,13 @@ clamp-over m v h = rw (pos-is v h)
 
 -- ---- the constants
 
-pub by-scale : (Bw B : ℕ) (v : ℤ) → byScale (scaleOf Bw B) v ≡ sample Bw B v
+by-scale : (Bw B : ℕ) (v : ℤ) → byScale (scaleOf Bw B) v ≡ sample Bw B v
 unfolding sample
 by-scale Bw B v = rw (+ℤ-assoc v (pos (2 ^ Bw / 2)) (pos (2 ^ (Bw - B) / 2)))
+
+pub output-by-scale : (kind Bw B : ℕ) (v : ℤ) → outputByScale kind (scaleOf Bw B) v ≡ outputOf kind Bw B v
+unfolding outputOf distance
+output-by-scale kind Bw B v = λ i. cond (eqb kind 0) (by-scale Bw B v i) (numberByScale (scaleOf Bw B) (natAbs v))
 
 pub usable : {Bw B : ℕ} → Precisions Bw B → Usable (scaleOf Bw B)
 usable {Bw} {B} h = record {
@@ -70,3 +87,9 @@ usable {Bw} {B} h = record {
   shift = omega arith;
   top = omega (arith, pow-mono {i = B} {j = 16} (h .most), pow-pos B);
 }
+
+-- ---- a loop that writes g's value over each element: a turn, as its code leaves the list
+pub pass-goes : {A : Type 0} (g : ℕ → A → A) (x : ℕ) (l : List A) (d : A) {now : List A} {z : A} → now ≡ mapped g x l → z ≡ g x (getD l x d)
+    → x < length l → set now x z ≡ mapped g (x + 1) l
+pass-goes {A} g x l d e made h =
+    ap₂ (λ (l : List A) (z : A). set l x z) e made ∙ mapped-step g x l d h ∙ ap (λ (n : ℕ). mapped g n l) (sym (add-one x))

@@ -1,6 +1,7 @@
 // Reads a page from standard input, of at most 16,384 bytes and 2,048 samples, and prints it.
 use libc::STDIN_FILENO;
 use libc::STDOUT_FILENO;
+use show::modes::Mode;
 
 fn main() {
     let mut stream = io::large_buffer();
@@ -9,11 +10,8 @@ fn main() {
         io::write_all(STDOUT_FILENO, b"input too long\n");
         return;
     }
-    let mut samples = [0u16; 2048];
-    let mut work = [0i64; 4096];
-    let page = reader::read(&stream[..n], &mut samples, &mut work);
-    // 2,048 samples of five digits, each with a space or a line's end, and four headings take less
     let mut text = io::large_buffer();
-    let size = show::page_text(page, &samples, &mut text);
+    let told = show::modes::text_of(Mode::Plain, &stream[..n], &mut text);
+    let size = told.size;
     io::write_all(STDOUT_FILENO, &text[..size]);
 }

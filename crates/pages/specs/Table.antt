@@ -1,10 +1,12 @@
 -- Whole pages: for each stream what the definitions of a reading give, and what it must be.
 use mathlib.Core.Bool.{false}
 use mathlib.Core.List.{List, [], _∷_}
+use mathlib.Core.Path.{_≡_}
 use Prim.Native.Nat.{ℕ, _*_}
 use lib.ListN.{length, replicate}
 use Rattle.reader.specs.Decoding.{handed, coefficients}
 use Rattle.reader.specs.Page.{headerOf, verdict, pageOf, samplesBy}
+use Rattle.reader.specs.Places.{distancePlane}
 use Rattle.pages.specs.Streams.{colours, fourComponents, twoColumns, widthFive, predicted, uniform, cut, trailing, sampledColour, keptOut, pastPrecinct, highCount, predictedAtTop, mixedRaw}
 use Rattle.pages.specs.Answers.{Reading, coloursRead, fourComponentsRead, twoColumnsRead, widthFiveRead, predictedRead, uniformRead}
 
@@ -81,3 +83,8 @@ gives (r ∷ rs) = readBy r ∷ gives rs
 abbrev pub says : List Row → List Reading
 says [] = []
 says (r ∷ rs) = r .says ∷ says rs
+
+-- ---- document 02, C-22: the definitions give the samples of a stream these distances
+
+abbrev pub HasDistances : List ℕ → List ℕ → Type 0
+HasDistances s distances = distancePlane s (headerOf s) false ≡ distances

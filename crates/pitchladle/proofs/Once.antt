@@ -1,9 +1,10 @@
 -- Uniqueness: two outcomes that keep an exported function's contract are equal, cell by cell. Assumes nothing.
 use Prim.Native.Nat.{ℕ}
+use mathlib.Core.Bool.{Bool}
 use mathlib.Core.List.{List}
 use mathlib.Core.Path.{_≡_, sym, _∙_}
 use lib.IntN.{ℤ}
-use Rattle.pitchladle.specs.Exported.{Handed, HandedDamaged}
+use Rattle.pitchladle.specs.Exported.{Handed, HandedDamaged, HandedBy}
 
 pub handed-once : {s a c₁ c₂ a₁ a₂ : List ℕ} {w w₁ w₂ : List ℤ} → Handed s a w c₁ a₁ w₁ → Handed s a w c₂ a₂ w₂
     → (c₁ ≡ c₂) × (a₁ ≡ a₂) × (w₁ ≡ w₂)
@@ -16,3 +17,15 @@ handed-damaged-once x y =
     let p = x .reads in
     let q = y .reads in
     (x .cells-are ∙ sym (y .cells-are), p .samples ∙ sym (q .samples), p .work ∙ sym (q .work), p .marks ∙ sym (q .marks))
+
+pub handed-places-once : {damaged : Bool} {s a m d c₁ c₂ a₁ a₂ m₁ m₂ d₁ d₂ : List ℕ} {w w₁ w₂ : List ℤ} → HandedBy damaged s a w m d c₁ a₁ w₁ m₁ d₁
+    → HandedBy damaged s a w m d c₂ a₂ w₂ m₂ d₂ → (c₁ ≡ c₂) × (a₁ ≡ a₂) × (w₁ ≡ w₂) × (m₁ ≡ m₂) × (d₁ ≡ d₂)
+handed-places-once x y =
+    let p = x .reads .beside in
+    let q = y .reads .beside in (
+      x .cells-are ∙ sym (y .cells-are),
+      p .samples ∙ sym (q .samples),
+      p .work ∙ sym (q .work),
+      p .marks ∙ sym (q .marks),
+      x .reads .distances ∙ sym (y .reads .distances),
+    )

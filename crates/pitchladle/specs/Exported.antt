@@ -1,5 +1,5 @@
 -- What the exported functions leave, by the reader's and the header's definitions.
-use mathlib.Core.Bool.{true, cond}
+use mathlib.Core.Bool.{Bool, true, false, cond}
 use mathlib.Core.List.{List, [], _∷_, _++_}
 use mathlib.Core.Path.{_≡_}
 use Prim.Native.Nat.{ℕ}
@@ -12,6 +12,7 @@ use Rattle.header.specs.declared.header.Header.{Header}
 use Rattle.reader.specs.Settings.{N}
 use Rattle.reader.specs.Page.{pageOf, Reads}
 use Rattle.reader.specs.Modes.{pageIn, ReadsDamaged}
+use Rattle.reader.specs.Places.{pageWith, ReadsBy}
 use Rattle.reader.specs.declared.page.Page.{Page}
 
 -- ---- the page record, cell by cell
@@ -34,6 +35,17 @@ pub record Handed (s a : List ℕ) (w : List ℤ) (cells a′ : List ℕ) (w′ 
 pub record HandedDamaged (s a : List ℕ) (w : List ℤ) (m cells a′ : List ℕ) (w′ : List ℤ) (m′ : List ℕ) : Type 0 where
   pub cells-are : cells ≡ cellsOf (pageIn true s (length a) (length w) (length m))
   pub reads : ReadsDamaged s a w m (pageIn true s (length a) (length w) (length m)) a′ w′ m′
+
+-- either with the plane of distances d: a page that is not read as a damaged one has no marks
+pub record HandedBy (damaged : Bool) (s a : List ℕ) (w : List ℤ) (m d cells a′ : List ℕ) (w′ : List ℤ) (m′ d′ : List ℕ) : Type 0 where
+  pub cells-are : cells ≡ cellsOf (pageWith damaged true s (length a) (length w) (length m) (length d))
+  pub reads : ReadsBy damaged true s a w m d (pageWith damaged true s (length a) (length w) (length m) (length d)) a′ w′ m′ d′
+
+abbrev pub HandedPlaces : List ℕ → List ℕ → List ℤ → List ℕ → List ℕ → List ℕ → List ℤ → List ℕ → Type 0
+HandedPlaces s a w d cells a′ w′ d′ = HandedBy false s a w [] d cells a′ w′ [] d′
+
+abbrev pub HandedDamagedPlaces : List ℕ → List ℕ → List ℤ → List ℕ → List ℕ → List ℕ → List ℕ → List ℤ → List ℕ → List ℕ → Type 0
+HandedDamagedPlaces = HandedBy true
 
 -- ---- N, how many samples the page has: 0 where the header is refused
 

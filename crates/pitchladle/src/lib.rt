@@ -10,7 +10,7 @@ ghost use mathlib.Core.Bool.{cond};
 ghost use Rattle.rows.specs.declared.Verdict.the-variants.{Fine};
 ghost use Rattle.layout.specs.Built.{Built};
 ghost use Rattle.shapes.specs.Shapes.{shapeOf};
-ghost use Rattle.pitchladle.specs.Exported.{cellsOf, Handed, HandedDamaged, neededBy, needed};
+ghost use Rattle.pitchladle.specs.Exported.{cellsOf, Handed, HandedDamaged, HandedPlaces, HandedDamagedPlaces, neededBy, needed};
 
 // 1 for yes and 0 for no.
 fn flag(b: bool) -> u64
@@ -77,6 +77,37 @@ pub extern "C" fn pitchladle_read_damaged(
     ensures { λ _. ⌜ HandedDamaged (now (stream .entry)) (now (samples .entry)) (now (work .entry)) (now (marks .entry)) (now (cells .exit)) (now (samples .exit)) (now (work .exit)) (now (marks .exit)) ⌝ }
 {
     let page = reader::read_damaged(stream, samples, work, marks);
+    *cells = cells_of(page);
+}
+
+// Reads a page with a distance for each sample, or refuses it.
+#[no_mangle]
+pub extern "C" fn pitchladle_read_places(
+    stream: &[u8],
+    samples: &mut [u16],
+    work: &mut [i64],
+    distances: &mut [u16],
+    cells: &mut [u64; 20],
+)
+    ensures { λ _. ⌜ HandedPlaces (now (stream .entry)) (now (samples .entry)) (now (work .entry)) (now (distances .entry)) (now (cells .exit)) (now (samples .exit)) (now (work .exit)) (now (distances .exit)) ⌝ }
+{
+    let page = reader::read_places(stream, samples, work, distances);
+    *cells = cells_of(page);
+}
+
+// Both: marks, and a distance for each sample.
+#[no_mangle]
+pub extern "C" fn pitchladle_read_damaged_places(
+    stream: &[u8],
+    samples: &mut [u16],
+    work: &mut [i64],
+    marks: &mut [u8],
+    distances: &mut [u16],
+    cells: &mut [u64; 20],
+)
+    ensures { λ _. ⌜ HandedDamagedPlaces (now (stream .entry)) (now (samples .entry)) (now (work .entry)) (now (marks .entry)) (now (distances .entry)) (now (cells .exit)) (now (samples .exit)) (now (work .exit)) (now (marks .exit)) (now (distances .exit)) ⌝ }
+{
+    let page = reader::read_damaged_places(stream, samples, work, marks, distances);
     *cells = cells_of(page);
 }
 

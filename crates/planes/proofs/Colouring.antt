@@ -2,6 +2,7 @@
 use mathlib.Core.Path.{_≡_, refl, sym, ap, ap₂, _∙_}
 use mathlib.Core.Logic.{_≢_}
 use Prim.Native.Nat.{ℕ, zero, suc, _*_, _≤_, _<_}
+use native.Mathlib.Nat.{le-refl}
 use native.Mathlib.Decide.{ℕ-discrete}
 use native.Mathlib.Omega.{arith}
 use borrow.Author.Tests.{ne-eqb}
@@ -9,6 +10,7 @@ use lib.IntN.{ℤ, pos, natAbs}
 use Rattle.whole.specs.Numbers.{ceilDiv, Within}
 use Rattle.whole.proofs.Within.{within-refl, within-zero, within-le, within-of-size, size-of-within}
 use Rattle.colour.specs.Rct.{inverseRct, numbersRct, PixelsWithin}
+use Rattle.colour.specs.Table.{colouredNumber}
 use Rattle.colour.proofs.Laws.{rct-within}
 use Rattle.layout.specs.declared.Shape.{Shape}
 use Rattle.layout.specs.Bands.{sx, sy, Wc, Hc}
@@ -65,6 +67,18 @@ pub record Behind (Cpih : ℕ) (e n : ℕ → ℕ) : Type 0 where
   pub green : Cpih ≡ 1 → numbersRct (record { c0 = e 0; c1 = e 1; c2 = e 2 }) .c1 ≤ n 1
   pub blue : Cpih ≡ 1 → numbersRct (record { c0 = e 0; c1 = e 1; c2 = e 2 }) .c2 ≤ n 2
   pub rest : Cpih ≡ 1 → (i : ℕ) → e (suc (suc (suc i))) ≤ n (suc (suc (suc i)))
+
+-- such are the numbers that rule 3 makes
+pub behind : (Cpih : ℕ) (e : ℕ → ℕ) → Behind Cpih e (colouredNumber Cpih e)
+unfolding colouredNumber
+behind Cpih e =
+    record {
+      none = λ other i. rw (ne-eqb Cpih 1 other) (le-refl (e i));
+      red = λ one. rw one (le-refl (numbersRct (record { c0 = e 0; c1 = e 1; c2 = e 2 }) .c0));
+      green = λ one. rw one (le-refl (numbersRct (record { c0 = e 0; c1 = e 1; c2 = e 2 }) .c1));
+      blue = λ one. rw one (le-refl (numbersRct (record { c0 = e 0; c1 = e 1; c2 = e 2 }) .c2));
+      rest = λ one i. rw one (le-refl (e (suc (suc (suc i)))));
+    }
 
 module _ {s : Shape} {Cpih : ℕ} (built : Built s) (colours : Colours s Cpih) where
   -- values of a place that differ by at most e before Annex F differ by at most n behind it

@@ -12,20 +12,19 @@ use Rattle.whole.specs.Cells.{cell}
 use Rattle.whole.specs.Numbers.{Within, Near}
 use Rattle.wavelet.specs.Filter.{samples}
 use Rattle.wavelet.specs.Transform.{Kind}
-use Rattle.wavelet.specs.Bands.{Coefficient}
-use Rattle.wavelet.specs.Distance.{component-number}
+use Rattle.wavelet.specs.Distance.{numbers, component-number}
 use Rattle.wavelet.proofs.Components.{inverse-same, inverse-within, inverse-small, inverse-joined, component-within, component-most, placed}
 use Rattle.colour.specs.Rct.{numbersRct}
-use Rattle.colour.proofs.Table.{number-most}
+use Rattle.colour.proofs.Table.{number-same, number-most}
 use Rattle.output.specs.Linear.{sample, distance}
 use Rattle.output.proofs.Laws.{sample-near, sample-below}
 use Rattle.layout.specs.declared.Shape.{Shape}
-use Rattle.layout.specs.Bands.{Wc, Hc, N′x, N′y}
+use Rattle.layout.specs.Bands.{Wc, N′x, N′y}
 use Rattle.layout.specs.Built.{Built}
 use Rattle.layout.specs.Cells.{start}
-use Rattle.planes.specs.Values.{Bands, Coefficients, Values, transformed, coloured, sampled, samplesOf}
+use Rattle.planes.specs.Values.{Bands, Coefficients, Values, Every, transformed, coloured, sampled, samplesOf}
 use Rattle.planes.specs.Places.{valuesIn, coefficientsIn, Inside, Colours, Ready, Holding}
-use Rattle.planes.specs.Numbers.{numbered, numbersOf, numbersIn, HoldingNumbers, filteredOf, colouredOf}
+use Rattle.planes.specs.Numbers.{numbered, numbersOf, held, numbersIn, HoldingNumbers, filteredOf, colouredOf}
 use Rattle.planes.proofs.Stretches.{component, row-below, Owner, within, outside, owner}
 use Rattle.planes.proofs.Colouring.{Behind, same-place, coloured-within, coloured-same, coloured-size}
 use Rattle.planes.proofs.EitherKind.{filtered-samples, filtered-numbers, kept-same}
@@ -100,7 +99,10 @@ held-unique {s} {v} {l} {l′} {l″} built h g = ext-getD (pos 0) l′ l″ (h 
         let q : start s i + (n / Wc s i * Wc s i + n % Wc s i) ≡ j = omega (arith, div-add-mod' n (Wc s i)) in
         subst (λ (k : ℕ). cell l′ k ≡ cell l″ k) q (h .values i (n % Wc s i) (n / Wc s i) inside ∙ sym (g .values i (n % Wc s i) (n / Wc s i) inside))
 
--- Annex E leaves numbers of numbers
+-- they hold numbers where they were given numbers, as Annex E gives of numbers
+pub numbers-held : {s : Shape} {n : Values ℕ} {l l′ : List ℤ} → Holding s (held n) l l′ → HoldingNumbers s l′
+numbers-held h = record { number = λ i x y p. rw (h .values i x y p) }
+
 pub held-numbers : {s : Shape} {kind : ℕ} {l l′ : List ℤ} → kind ≢ 0 → Holding s (filteredOf kind s l) l l′ → HoldingNumbers s l′
 held-numbers {s} {l = l} n h = record { number = λ i x y p. rw (h .values i x y p ∙ filtered-numbers s l i x y n) }
 
@@ -116,17 +118,22 @@ held-coloured {s} {v = v} {l′ = l′} built colours kind h g =
 
 -- ---- which coefficients count
 
--- those that the components have
-abbrev pub Every : Shape → (ℕ → Kind → ℕ → ℕ → ℕ → ℕ → Type 0) → Type 0
-Every s P =
-    (i : ℕ) → i < s .nc → (k : Kind) (dx dy x y : ℕ) → Coefficient (Wc s i) (Hc s i) (N′x s i) (N′y s i) k dx dy x y → P i k dx dy x y
-
 module _ {s : Shape} (built : Built s) where
   pub transformed-same : (T T′ : Coefficients) → Every s (λ i k dx dy x y. T i k dx dy x y ≡ T′ i k dx dy x y)
       → (i x y : ℕ) → Inside s i x y → transformed s T i x y ≡ transformed s T′ i x y
   unfolding transformed
   transformed-same T T′ given i x y p =
       inverse-same (built .sampled i (p .component) .parts) samples (T i) (T′ i) (given i (p .component)) x y (p .column) (p .row)
+
+  -- numbers that agree on every coefficient
+  pub numbers-of-same : {Cpih : ℕ} → Colours s Cpih → (N N′ : Bands ℕ) → Every s (λ i k dx dy x y. N i k dx dy x y ≡ N′ i k dx dy x y)
+      → (i x y : ℕ) → Inside s i x y → numbersOf s Cpih N i x y ≡ numbersOf s Cpih N′ i x y
+  numbers-of-same {Cpih} colours N N′ given i x y p =
+      number-same Cpih (λ j. numbered s N j x y) (λ j. numbered s N′ j x y)
+      (λ one j h. at j (same-place built (colours .full one) p j (omega (arith, colours .three one)))) i (at i p)
+    where
+      at : (j : ℕ) → Inside s j x y → numbered s N j x y ≡ numbered s N′ j x y
+      at j q = inverse-same (built .sampled j (q .component) .parts) numbers (N j) (N′ j) (given j (q .component)) x y (q .column) (q .row)
 
   -- ---- distance
 

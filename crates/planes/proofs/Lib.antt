@@ -7,4 +7,6 @@ pub mod Transforms
 pub mod Pixels
 pub mod Laws
 pub mod Planes
+pub mod LostPlanes
 pub mod Marking
+pub mod Distances

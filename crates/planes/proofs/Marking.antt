@@ -9,24 +9,23 @@ use native.Mathlib.Omega.{arith}
 use borrow.Author.Tests.{eq-eqb, ne-eqb}
 use lib.IntN.{ℤ, pos, natAbs}
 use Rattle.whole.specs.Numbers.{ceilDiv}
-use Rattle.wavelet.specs.Filter.{samples}
+use Rattle.wavelet.specs.Filter.{Steps, samples}
 use Rattle.wavelet.specs.Marks.{touched, marked}
 use Rattle.wavelet.proofs.Related.{Keeps}
 use Rattle.wavelet.proofs.Transforms.{inverse-keeps}
 use Rattle.wavelet.proofs.Marks.{inverse-shielded, inverse-raised}
-use Rattle.colour.specs.Rct.{numbersRct, Marks, marksRct}
+use Rattle.colour.specs.Rct.{inverseRct, numbersRct, Marks, marksRct}
 use Rattle.colour.specs.Table.{colouredNumber, colouredMark}
 use Rattle.colour.specs.declared.Numbers.{Numbers}
-use Rattle.colour.proofs.Table.{table-keeps, table-pairs, table-each, rct-shielded, Unmarked, unmarked-rct}
+use Rattle.colour.proofs.Table.{table-pairs, table-each, colouredBy, table-shielded, Unmarked, unmarked-rct}
 use Rattle.output.specs.Linear.{sample}
 use Rattle.layout.specs.declared.Shape.{Shape}
 use Rattle.layout.specs.Built.{Built}
-use Rattle.planes.specs.Values.{Bands, Coefficients, transformed, coloured, sampled, samplesOf, planes}
+use Rattle.planes.specs.Values.{Bands, Coefficients, Every, filtered, transformed, coloured, sampled, samplesOf, planes}
 use Rattle.planes.specs.Places.{coefficientsIn, Inside, Colours, Holding}
 use Rattle.planes.specs.Numbers.{numbered, numbersOf, held, numbersIn}
 use Rattle.planes.specs.Marks.{touchedBy, markOf, bit, cellMark, marksIn}
 use Rattle.planes.proofs.Colouring.{same-place}
-use Rattle.planes.proofs.Laws.{Every}
 use Rattle.planes.proofs.Planes.{planes-same}
 
 -- ---- Annex F: numbers that are not 0 are marks, behind it as before it
@@ -129,21 +128,25 @@ module _ {s : Shape} (built : Built s) {Cpih : ℕ} (colours : Colours s Cpih) (
         c2 = at 2 (first-three p one 2 (omega arith));
       })
 
-  -- coefficients that agree where none is lost make samples that agree where no mark is
-  module _ (T T′ : Coefficients) (given : Every s (λ i k dx dy x y. lost i k dx dy x y ≡ false → T i k dx dy x y ≡ T′ i k dx dy x y)) where
-    values-shielded : (i x y : ℕ) → Inside s i x y → markOf s Cpih lost i x y ≡ false → coloured Cpih (transformed s T) i x y ≡ coloured Cpih (transformed s T′) i x y
-    unfolding markOf colouredMark coloured transformed
-    values-shielded i x y p =
-        table-keeps (λ v w m. m ≡ false → v ≡ w) (λ j. transformed s T j x y) (λ j. transformed s T′ j x y) (λ j. touchedBy s lost j x y) Cpih
-        (λ one. rct-shielded (at 0 (first-three p one 0 (omega arith))) (at 1 (first-three p one 1 (omega arith))) (at 2 (first-three p one 2 (omega arith)))) i (at i p)
-      where
-        at : (j : ℕ) → Inside s j x y → touchedBy s lost j x y ≡ false → transformed s T j x y ≡ transformed s T′ j x y
-        at j q = inverse-shielded (built .sampled j (q .component) .parts) samples (T j) (T′ j) (lost j) (given j (q .component)) x y (q .column) (q .row)
+  -- values of any kind, from coefficients that agree where none is lost, agree behind both annexes where no mark is. f is F.3 for their kind
+  pub kind-shielded : {A : Type 0} (S : Steps A) (f : A → A → A → A × A × A) (T T′ : Bands A)
+      → Every s (λ i k dx dy x y. lost i k dx dy x y ≡ false → T i k dx dy x y ≡ T′ i k dx dy x y)
+      → (i x y : ℕ) → Inside s i x y → markOf s Cpih lost i x y ≡ false
+      → colouredBy f Cpih (λ j. filtered S s T j x y) i ≡ colouredBy f Cpih (λ j. filtered S s T′ j x y) i
+  unfolding markOf
+  kind-shielded S f T T′ given i x y p =
+      table-shielded f Cpih (λ j. filtered S s T j x y) (λ j. filtered S s T′ j x y) (λ j. touchedBy s lost j x y) (λ one j h. at j (first-three p one j h)) i (at i p)
+    where
+      at : (j : ℕ) → Inside s j x y → touchedBy s lost j x y ≡ false → filtered S s T j x y ≡ filtered S s T′ j x y
+      at j q = inverse-shielded (built .sampled j (q .component) .parts) S (T j) (T′ j) (lost j) (given j (q .component)) x y (q .column) (q .row)
 
-    pub shield : (Bw : ℕ) (B : ℕ → ℕ) (i x y : ℕ) → Inside s i x y → markOf s Cpih lost i x y ≡ false
-        → samplesOf s Cpih Bw B T i x y ≡ samplesOf s Cpih Bw B T′ i x y
-    unfolding sampled
-    shield Bw B i x y p e = ap (sample Bw (B i)) (values-shielded i x y p e)
+  -- such are samples
+  pub shield : (T T′ : Coefficients) → Every s (λ i k dx dy x y. lost i k dx dy x y ≡ false → T i k dx dy x y ≡ T′ i k dx dy x y)
+      → (Bw : ℕ) (B : ℕ → ℕ) (i x y : ℕ) → Inside s i x y → markOf s Cpih lost i x y ≡ false → samplesOf s Cpih Bw B T i x y ≡ samplesOf s Cpih Bw B T′ i x y
+  unfolding coloured transformed sampled
+  shield T T′ given Bw B i x y p e =
+      ap (sample Bw (B i))
+      (kind-shielded samples (λ a b c. let o = inverseRct (record { c0 = a; c1 = b; c2 = c }) in (o .c0, o .c1, o .c2)) T T′ given i x y p e)
 
 -- a mark depends on which coefficients are lost, and on nothing else
 pub mark-same : {s : Shape} → Built s → {Cpih : ℕ} → Colours s Cpih → (lost lost′ : Bands Bool) → Every s (λ i k dx dy x y. lost i k dx dy x y ≡ lost′ i k dx dy x y)

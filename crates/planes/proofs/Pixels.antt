@@ -19,7 +19,7 @@ use Rattle.planes.specs.Places.{valuesIn, Inside, Ready, Holding}
 use Rattle.planes.specs.Numbers.{HoldingNumbers, colouredOf}
 use Rattle.planes.proofs.Colouring.{coloured-rct, same-width, same-area, same-place}
 use Rattle.planes.proofs.EitherKind.{coloured-samples, coloured-numbers, raised-part, kept-none}
-use Rattle.planes.proofs.Stretches.{offset-below, stretches-apart, ready-one, stretch-fits, stretch-small, stretch-number}
+use Rattle.planes.proofs.Stretches.{offset-below, stretches-apart, ready-one, number-one, stretch-fits, stretch-small, stretch-number}
 
 -- ---- the reversible transform
 
@@ -65,7 +65,7 @@ module _ {s : Shape} {l : List ℤ} (ready : Ready s (2 ^ 45) l) (three : 3 ≤ 
   holding numbers = record { holds = λ x h j. record { c0 = one 0 x (omega arith) h j; c1 = one 1 x (omega arith) h j; c2 = one 2 x (omega arith) h j } }
     where
       one : (i x : ℕ) → i < 3 → x < area s 0 → cell l (start s i + x) ≡ pos (natAbs (cell l (start s i + x)))
-      one i x h b = stretch-number (ready .built) numbers (omega arith) x (omega (arith, size i (omega arith)))
+      one i x h b = stretch-number (ready-one {i = i} ready (omega arith)) (number-one numbers (omega arith)) x (omega (arith, size i (omega arith)))
 
   -- a cell that is none of the three components'
   outside : (n : ℕ) → ((i : ℕ) → i < 3 → start s i ≤ n → start s i + area s i ≤ n) → (x : ℕ) → x < area s 0

@@ -1,5 +1,5 @@
 -- The list of all samples: how long it is, what stands at each place, and how it is written component by component. Assumes nothing.
-use mathlib.Core.Path.{_≡_, refl, sym, ap, _∙_}
+use mathlib.Core.Path.{_≡_, refl, sym, subst, ap, _∙_}
 use mathlib.Core.List.{List, _++_, map, append-assoc}
 use Prim.Native.Nat.{ℕ, zero, suc, _+_, _*_, _-_, _/_, _%_, _^_, _≤_, _<_}
 use native.Mathlib.Nat.{mul-comm, div-add-mod'}
@@ -12,7 +12,7 @@ use lib.Seq.{length-take-le, take-all, take-at, getD-append-add, drop-drop, ext-
 use Rattle.whole.specs.Cells.{cell}
 use Rattle.whole.proofs.Lists.{listed-length, listed-at}
 use Rattle.wavelet.specs.Transform.{Band}
-use Rattle.output.specs.Linear.{sample, Precisions, Lent}
+use Rattle.output.specs.Linear.{sample, distance, Precisions, Lent, Numbers}
 use Rattle.layout.specs.declared.Shape.{Shape}
 use Rattle.layout.specs.Bands.{Wc, Hc}
 use Rattle.layout.specs.Built.{Built}
@@ -20,9 +20,10 @@ use Rattle.layout.specs.Cells.{area, samples, start}
 use Rattle.layout.proofs.Cells.{row-of-cell, column-of-cell, starts-up}
 use Rattle.planes.specs.Values.{Values, sampled, plane, planes}
 use Rattle.planes.specs.Places.{valuesIn, Inside, Holding}
+use Rattle.planes.specs.Numbers.{measured, held, sizes, NumbersOne}
 use Rattle.planes.specs.Components.{ReadyOne, withPlane}
 use Rattle.planes.proofs.Parts.{between, part-length, part-at}
-use Rattle.planes.proofs.Stretches.{offset-below, row-below, stretch-fits, stretch-small}
+use Rattle.planes.proofs.Stretches.{offset-below, row-below, stretch-fits, stretch-small, stretch-number}
 
 -- ---- its length
 
@@ -44,6 +45,13 @@ plane-at : (s : Shape) (i : ℕ) (f : Band ℕ) (x y : ℕ) → x < Wc s i → y
 plane-at s i f x y c r =
     listed-at (Hc s i * Wc s i) (λ j. f (j % Wc s i) (j / Wc s i)) 0 (y * Wc s i + x) (omega (arith, offset-below s i x y c r, by-rows s i))
     ∙ (λ j. f (column-of-cell (Wc s i) y x c j) (row-of-cell (Wc s i) y x c j))
+
+-- a list of as many elements is the plane of what they are
+pub plane-made : (s : Shape) (i : ℕ) (f : Band ℕ) (d : ℕ) (ys : List ℕ) → length ys ≡ area s i
+    → ((j : ℕ) → j < area s i → getD ys j d ≡ f (j % Wc s i) (j / Wc s i)) → ys ≡ plane (Wc s i) (Hc s i) f
+plane-made s i f d ys long at =
+    ext-getD d ys (plane (Wc s i) (Hc s i) f) (long ∙ sym (plane-length s i f))
+    (λ j h. at j (omega arith) ∙ sym (listed-at (Hc s i * Wc s i) (λ j. f (j % Wc s i) (j / Wc s i)) d j (omega (arith, by-rows s i))))
 
 -- of the first n components
 first-at : (s : Shape) (f : Values ℕ) (n i x y : ℕ) → i < n → x < Wc s i → y < Hc s i → getD (planes s f n) (samples s i + (y * Wc s i + x)) 0 ≡ f i x y
@@ -136,36 +144,49 @@ planes-same {s} built f g given =
         rw (sym (p .is))
         (planes-at s f (p .i) (p .x) (p .y) (p .inside) ∙ given (p .i) (p .x) (p .y) (p .inside) ∙ sym (planes-at s g (p .i) (p .x) (p .y) (p .inside)))
 
--- the samples of the values that the cells were given
+-- what is written of the values that the cells were given
+pub planes-given : {s : Shape} {v : Values ℤ} {l l′ : List ℤ} → Built s → Holding s v l l′ → (f : ℕ → ℤ → ℕ)
+    → planes s (λ i x y. f i (valuesIn s l′ i x y)) (s .nc) ≡ planes s (λ i x y. f i (v i x y)) (s .nc)
+planes-given {s} {v} {l′ = l′} built h f =
+    planes-same built (λ i x y. f i (valuesIn s l′ i x y)) (λ i x y. f i (v i x y)) (λ i x y p. ap (f i) (h .values i x y p))
+
+-- the samples of the values; the distances of numbers
 pub planes-held : {s : Shape} {v : Values ℤ} {l l′ : List ℤ} → Built s → Holding s v l l′ → (Bw : ℕ) (B : ℕ → ℕ)
     → planes s (sampled Bw B (valuesIn s l′)) (s .nc) ≡ planes s (sampled Bw B v) (s .nc)
 unfolding sampled
-planes-held {s} {v} {l′ = l′} built h Bw B =
-    planes-same built (sampled Bw B (valuesIn s l′)) (sampled Bw B v) (λ i x y p. ap (sample Bw (B i)) (h .values i x y p))
+planes-held built h Bw B = planes-given built h (λ i. sample Bw (B i))
+
+pub distances-held : {s : Shape} {n : Values ℕ} {l l′ : List ℤ} → Built s → Holding s (held n) l l′ → (Bw : ℕ) (B : ℕ → ℕ)
+    → planes s (measured Bw B (sizes (valuesIn s l′))) (s .nc) ≡ planes s (measured Bw B n) (s .nc)
+unfolding measured
+distances-held built h Bw B = planes-given built h (λ i z. distance Bw (B i) (natAbs z))
 
 -- ---- a component's samples, written to their part of the list
 
+-- as the code has it: behind the b samples of the components before it, its own n
+pub plane-back : (s : Shape) (i : ℕ) (f : Band ℕ) (out : List ℕ) {b n : ℕ} → b ≡ samples s i → n ≡ area s i → {ys : List ℕ} → ys ≡ plane (Wc s i) (Hc s i) f
+    → take b out ++ (ys ++ drop (b + n - b) (drop b out)) ≡ withPlane s i f out
+plane-back s i f out {b} {n} before size {ys} made =
+    sym (append-assoc (take b out) ys (drop (b + n - b) (drop b out)))
+    ∙ ap (λ (t : List ℕ). take b out ++ ys ++ t) (drop-drop (b + n - b) b out)
+    ∙ (λ j. take (before j) out ++ made j ++ drop (before j + (between b n ∙ size) j) out)
+
 module _ {s : Shape} {i : ℕ} {l : List ℤ} (ready : ReadyOne s (2 ^ 60) i l) where
+  abbrev stretch : List ℤ
+  stretch = take (area s i) (drop (start s i) l)
+
+  stretch-length : length stretch ≡ area s i
+  stretch-length = part-length (start s i) (area s i) l (stretch-fits ready)
+
+  stretch-at : (j : ℕ) → j < area s i → cell stretch j ≡ cell l (start s i + j)
+  stretch-at = part-at (start s i) (area s i) l (stretch-fits ready) (pos 0)
+
   -- what f makes of the component's stretch
-  plane-is : (f : ℤ → ℕ) → map f (take (area s i) (drop (start s i) l)) ≡ plane (Wc s i) (Hc s i) (λ x y. f (valuesIn s l i x y))
+  plane-is : (f : ℤ → ℕ) → map f stretch ≡ plane (Wc s i) (Hc s i) (λ x y. f (valuesIn s l i x y))
   plane-is f =
-      ext-getD (f (pos 0)) (map f part) (plane (Wc s i) (Hc s i) (λ x y. f (valuesIn s l i x y)))
-      (long ∙ sym (plane-length s i (λ x y. f (valuesIn s l i x y)))) (λ j h. at j (omega (arith, long)))
-    where
-      part : List ℤ
-      part = take (area s i) (drop (start s i) l)
+      plane-made s i (λ x y. f (valuesIn s l i x y)) (f (pos 0)) (map f stretch) (length-map stretch f ∙ stretch-length)
+      (λ j h. List·getD-map f stretch j (pos 0) ∙ ap f (stretch-at j h) ∙ ap (λ (n : ℕ). f (cell l (start s i + n))) (sym (div-add-mod' j (Wc s i))))
 
-      long : length (map f part) ≡ area s i
-      long = length-map part f ∙ part-length (start s i) (area s i) l (stretch-fits ready)
-
-      at : (j : ℕ) → j < area s i → getD (map f part) j (f (pos 0)) ≡ getD (plane (Wc s i) (Hc s i) (λ x y. f (valuesIn s l i x y))) j (f (pos 0))
-      at j h =
-          List·getD-map f part j (pos 0)
-          ∙ ap f (part-at (start s i) (area s i) l (stretch-fits ready) (pos 0) j h)
-          ∙ ap (λ (n : ℕ). f (cell l (start s i + n))) (sym (div-add-mod' j (Wc s i)))
-          ∙ sym (listed-at (Hc s i * Wc s i) (λ j. f (valuesIn s l i (j % Wc s i) (j / Wc s i))) (f (pos 0)) j (omega (arith, by-rows s i)))
-
-  -- as the code has it: from the b samples of the components before it and its own n
   module _ (out : List ℕ) (long : length out ≡ samples s (s .nc)) {b n : ℕ} (before : b ≡ samples s i) (size : n ≡ area s i) where
     abbrev values-part : List ℤ
     values-part = take (2 * b + n - 2 * b) (drop (2 * b) l)
@@ -173,27 +194,23 @@ module _ {s : Shape} {i : ℕ} {l : List ℤ} (ready : ReadyOne s (2 ^ 60) i l) 
     pub samples-taken : {Bw B : ℕ} → Precisions Bw B → Lent Bw B values-part (take (b + n - b) (drop b out))
     samples-taken bits = rw (between (2 * b) n, between b n, before, size) (record {
       precisions = bits;
-      small = record { most = λ j h. small j (omega (arith, long-values)) };
-      room = long-values ∙ sym (part-length (samples s i) (area s i) out room);
+      small = record { most = λ j h. small j (omega (arith, stretch-length)) };
+      room = stretch-length ∙ sym (part-length (samples s i) (area s i) out (omega (arith, starts-up s i (s .nc) (ready .there))));
     })
       where
-        long-values : length (take (area s i) (drop (start s i) l)) ≡ area s i
-        long-values = part-length (start s i) (area s i) l (stretch-fits ready)
+        small : (j : ℕ) → j < area s i → natAbs (cell stretch j) ≤ 2 ^ 60
+        small j h = rw (stretch-at j h) (stretch-small ready j h)
 
-        room : samples s i + area s i ≤ length out
-        room = omega (arith, starts-up s i (s .nc) (ready .there))
-
-        small : (j : ℕ) → j < area s i → natAbs (cell (take (area s i) (drop (start s i) l)) j) ≤ 2 ^ 60
-        small j h = rw (part-at (start s i) (area s i) l (stretch-fits ready) (pos 0) j h) (stretch-small ready j h)
+    pub numbers-taken : NumbersOne s i l → Numbers values-part
+    numbers-taken given = rw (between (2 * b) n, before, size) (record { number = λ j h. number j (omega (arith, stretch-length)) })
+      where
+        number : (j : ℕ) → j < area s i → cell stretch j ≡ pos (natAbs (cell stretch j))
+        number j h = subst (λ (z : ℤ). z ≡ pos (natAbs z)) (sym (stretch-at j h)) (stretch-number ready given j h)
 
     -- what f makes of the values, such as Annex G's samples, given back
     pub plane-given : (f : ℤ → ℕ) {ys : List ℕ} → ys ≡ map f values-part
         → take b out ++ (ys ++ drop (b + n - b) (drop b out)) ≡ withPlane s i (λ x y. f (valuesIn s l i x y)) out
-    plane-given f {ys} e =
-        let made : ys ≡ plane (Wc s i) (Hc s i) (λ x y. f (valuesIn s l i x y)) = (rw (between (2 * b) n, before, size) at e) ∙ plane-is f in
-        sym (append-assoc (take b out) ys (drop (b + n - b) (drop b out)))
-        ∙ ap (λ (t : List ℕ). take b out ++ ys ++ t) (drop-drop (b + n - b) b out)
-        ∙ (λ j. take (before j) out ++ made j ++ drop (before j + (between b n ∙ size) j) out)
+    plane-given f e = plane-back s i (λ x y. f (valuesIn s l i x y)) out before size ((rw (between (2 * b) n, before, size) at e) ∙ plane-is f)
 
 -- ---- the first k components are written
 pub record Written (s : Shape) (f : Values ℕ) (k : ℕ) (out : List ℕ) : Type 0 where

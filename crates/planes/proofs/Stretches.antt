@@ -9,16 +9,18 @@ use native.Mathlib.Omega.{arith}
 use lib.IntN.{ℤ, pos, natAbs}
 use lib.ListN.{length}
 use Rattle.whole.specs.Cells.{cell}
-use Rattle.wavelet.specs.Places.{Component}
+use Rattle.wavelet.specs.Places.{bands, Component}
 use Rattle.layout.specs.declared.Shape.{Shape}
 use Rattle.layout.specs.Bands.{Wc, Hc, N′x, N′y}
 use Rattle.layout.specs.Built.{Built}
 use Rattle.layout.specs.Cells.{area, start}
 use Rattle.layout.specs.Sizes.{component-of}
 use Rattle.layout.proofs.Shapes.{component-small}
+use Rattle.layout.proofs.Places.{place-found}
 use Rattle.layout.proofs.Cells.{cell-below, starts-up}
-use Rattle.planes.specs.Places.{Ready}
-use Rattle.planes.specs.Numbers.{HoldingNumbers}
+use Rattle.planes.specs.Values.{Values, Every}
+use Rattle.planes.specs.Places.{valuesIn, Inside, Ready}
+use Rattle.planes.specs.Numbers.{NumbersOne, HoldingNumbers}
 use Rattle.planes.specs.Components.{ReadyOne}
 
 -- a component is one that Annex E takes
@@ -54,6 +56,14 @@ row-below {s} built {i} h n l =
     let wide = component built h .sheet .wide in
     (mod-lt n wide, div-lt-iff-lt-mul wide .1 (omega (arith, mul-comm (Wc s i) (Hc s i))))
 
+-- every place is some coefficient's: what holds of each coefficient, where it stands, holds of the value at each place
+pub every-value : {A : Type 0} {s : Shape} → Built s → (P : A → Type 0) (v : Values A) → Every s (λ i k dx dy x y. P (bands (v i) k dx dy x y))
+    → (i x y : ℕ) → Inside s i x y → P (v i x y)
+every-value {s = s} built P v given i x y p =
+    let f = place-found (Wc s i) (Hc s i) (N′x s i) (N′y s i) x y (built .sampled i (p .component) .parts .no-more) (p .column) (p .row) in
+    subst (λ (q : ℕ × ℕ). P (v i (q .0) (q .1))) (λ j. (f .stands .column j, f .stands .row j))
+    (given i (p .component) (f .kind) (f .dx) (f .dy) (f .x) (f .y) (f .stands .coefficient))
+
 -- a cell is in the stretch of one of the first k components, or in none
 pub data Owner (s : Shape) (k j : ℕ) : Type 0 where
   within : (i n : ℕ) → i < k → n < area s i → j ≡ start s i + n → Owner s k j
@@ -81,20 +91,22 @@ pub ready-one : {s : Shape} {bound i : ℕ} {l : List ℤ} → Ready s bound l �
 ready-one {i = i} ready h =
     record { built = ready .built; there = h; room = ready .room; small = λ x y c r. ready .small i x y (record { component = h; column = c; row = r }) }
 
+pub number-one : {s : Shape} {i : ℕ} {l : List ℤ} → HoldingNumbers s l → i < s .nc → NumbersOne s i l
+number-one {i = i} numbers h = record { number = λ x y c r. numbers .number i x y (record { component = h; column = c; row = r }) }
+
+-- what holds of the component's values holds of each cell of its stretch
+stretch-each : {s : Shape} {i : ℕ} (l : List ℤ) (P : ℤ → Type 0) → Built s → i < s .nc → ((x y : ℕ) → x < Wc s i → y < Hc s i → P (valuesIn s l i x y))
+    → (n : ℕ) → n < area s i → P (cell l (start s i + n))
+stretch-each {s} {i} l P built there each n h =
+    let p = row-below built there n h in
+    subst (λ (k : ℕ). P (cell l (start s i + k))) (div-add-mod' n (Wc s i)) (each (n % Wc s i) (n / Wc s i) (p .0) (p .1))
+
 module _ {s : Shape} {bound i : ℕ} {l : List ℤ} (ready : ReadyOne s bound i l) where
   pub stretch-fits : start s i + area s i ≤ length l
   stretch-fits = omega (arith, starts-up s i (s .nc) (ready .there), ready .room)
 
   pub stretch-small : (n : ℕ) → n < area s i → natAbs (cell l (start s i + n)) ≤ bound
-  stretch-small n h =
-      let p = row-below (ready .built) (ready .there) n h in
-      let e : n / Wc s i * Wc s i + n % Wc s i ≡ n = div-add-mod' n (Wc s i) in
-      rw e at (ready .small (n % Wc s i) (n / Wc s i) (p .0) (p .1))
+  stretch-small = stretch-each l (λ z. natAbs z ≤ bound) (ready .built) (ready .there) (ready .small)
 
--- where the cells hold numbers, each of a stretch does
-pub stretch-number : {s : Shape} {i : ℕ} {l : List ℤ} → Built s → HoldingNumbers s l → i < s .nc → (n : ℕ) → n < area s i
-    → cell l (start s i + n) ≡ pos (natAbs (cell l (start s i + n)))
-stretch-number {s} {i} {l} built numbers h n b =
-    let p = row-below built h n b in
-    subst (λ (k : ℕ). cell l (start s i + k) ≡ pos (natAbs (cell l (start s i + k)))) (div-add-mod' n (Wc s i))
-    (numbers .number i (n % Wc s i) (n / Wc s i) (record { component = h; column = p .0; row = p .1 }))
+  pub stretch-number : NumbersOne s i l → (n : ℕ) → n < area s i → cell l (start s i + n) ≡ pos (natAbs (cell l (start s i + n)))
+  stretch-number numbers = stretch-each l (λ z. z ≡ pos (natAbs z)) (ready .built) (ready .there) (numbers .number)

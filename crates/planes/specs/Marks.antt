@@ -5,8 +5,9 @@ use Prim.Native.Nat.{ℕ}
 use lib.IntN.{ℤ, natAbs}
 use Rattle.wavelet.specs.Marks.{touched, marked}
 use Rattle.colour.specs.Table.{colouredMark}
+use Rattle.output.specs.Linear.{lostDistance}
 use Rattle.layout.specs.declared.Shape.{Shape}
-use Rattle.planes.specs.Values.{Bands, Values, filtered}
+use Rattle.planes.specs.Values.{Bands, Values, filtered, inPlanes}
 use Rattle.planes.specs.Places.{valuesIn}
 
 -- the values before Annex F that depend on a coefficient that is lost
@@ -27,3 +28,7 @@ cellMark z = bit (marked (natAbs z))
 
 abbrev pub marksIn : Shape → List ℤ → Values ℕ
 marksIn s l i x y = cellMark (valuesIn s l i x y)
+
+-- what the marks of the samples make of their distances, with each component's precision: both stand as samples do
+abbrev pub markedDistances : Shape → (ℕ → ℕ) → List ℕ → List ℕ → Values ℕ
+markedDistances s B marks out i x y = lostDistance (B i) (inPlanes s marks i x y) (inPlanes s out i x y)

@@ -1,16 +1,19 @@
 -- From the coefficients of a picture to its samples: Annex E for each component, Annex F, Annex G.
 use mathlib.Core.List.{List, [], _++_}
-use Prim.Native.Nat.{ℕ, zero, suc, _*_, _/_, _%_}
+use Prim.Native.Nat.{ℕ, zero, suc, _+_, _*_, _/_, _%_, _<_}
 use lib.IntN.{ℤ}
+use lib.ListN.{getD}
 use Rattle.whole.specs.Cells.{listed}
 use Rattle.wavelet.specs.Filter.{Steps, samples}
 use Rattle.wavelet.specs.Transform.{Kind, Band, inverse}
+use Rattle.wavelet.specs.Bands.{Coefficient}
 use Rattle.colour.specs.Rct.{inverseRct}
 use Rattle.colour.specs.Table.{partOf, table-F1}
 use Rattle.colour.specs.declared.Pixel.{Pixel}
 use Rattle.output.specs.Linear.{sample}
 use Rattle.layout.specs.declared.Shape.{Shape}
 use Rattle.layout.specs.Bands.{Wc, Hc, N′x, N′y}
+use Rattle.layout.specs.Cells.{samples as samplesBefore}
 
 -- the band arrays T[β, x, y] of each component i, with β by its letters and depths
 abbrev pub Bands : Type 0 → Type 0
@@ -22,6 +25,11 @@ Coefficients = Bands ℤ
 -- a value for each component i, column x and row y
 abbrev pub Values : Type 0 → Type 0
 Values A = ℕ → Band A
+
+-- a property of each coefficient that the components have
+abbrev pub Every : Shape → (ℕ → Kind → ℕ → ℕ → ℕ → ℕ → Type 0) → Type 0
+Every s P =
+    (i : ℕ) → i < s .nc → (k : Kind) (dx dy x y : ℕ) → Coefficient (Wc s i) (Hc s i) (N′x s i) (N′y s i) k dx dy x y → P i k dx dy x y
 
 -- Annex E, of any kind of value that its filter has steps for: every component is decomposed
 abbrev pub filtered : {A : Type 0} → Steps A → Shape → Bands A → Values A
@@ -61,3 +69,7 @@ plane W H f = listed (H * W) (λ j. f (j % W) (j / W))
 unfoldable pub planes : Shape → Values ℕ → ℕ → List ℕ
 planes s f zero = []
 planes s f (suc n) = planes s f n ++ plane (Wc s n) (Hc s n) (f n)
+
+-- the value of component i in column x and row y of such a list
+abbrev pub inPlanes : Shape → List ℕ → Values ℕ
+inPlanes s l i x y = getD l (samplesBefore s i + (y * Wc s i + x)) 0

@@ -7,14 +7,15 @@ use layout::lines::samples_before;
 ghost use mathlib.Core.Path.{_≡_};
 ghost use mathlib.Core.Logic.{_≢_};
 ghost use mathlib.Core.List.{map};
-ghost use Prim.Native.Nat.{_^_};
+ghost use Prim.Native.Nat.{ℕ, _^_, _≤_, _<_};
 ghost use lib.ListN.{length, getD};
+ghost use Rattle.layout.specs.Built.{Built};
 ghost use Rattle.layout.specs.Cells.{samples};
-ghost use Rattle.output.specs.Linear.{sample, Precisions};
+ghost use Rattle.output.specs.Linear.{outputOf, Precisions};
 ghost use Rattle.planes.specs.Values.{transformed, coloured, sampled, planes};
 ghost use Rattle.planes.specs.Places.{valuesIn, coefficientsIn, Colours, Ready, Holding, Depths};
-ghost use Rattle.planes.specs.Numbers.{numbersOf, held, numbersIn, NumbersOne, HoldingNumbers, filteredOf, colouredOf};
-ghost use Rattle.planes.specs.Marks.{cellMark, marksIn};
+ghost use Rattle.planes.specs.Numbers.{numbersOf, measured, held, sizes, numbersIn, NumbersOne, HoldingNumbers, filteredOf, colouredOf, outputsOf};
+ghost use Rattle.planes.specs.Marks.{cellMark, marksIn, markedDistances};
 ghost use Rattle.planes.specs.Components.{ReadyOne, HoldingOne, withPlane};
 
 // Annex E of component i, whose coefficients are lent on.
@@ -89,16 +90,43 @@ pub fn numbers(work: &mut [i64], s: Shape, cpih: usize)
 }
 
 // Annex G of component i, whose values and samples are lent on.
-fn component_samples(work: &[i64], out: &mut [u16], s: Shape, i: usize, bw: usize, b: usize)
-    requires { ⌜ ReadyOne s (2 ^ 60) i (now work) × Precisions bw b × (length (now out) ≡ samples s (s .nc)) ⌝ }
-    ensures { λ _. ⌜ now (out .exit) ≡ withPlane s i (λ x y. sample bw b (valuesIn s (now (work .entry)) i x y)) (now (out .entry)) ⌝ }
+fn component_output(
+    work: &[i64],
+    out: &mut [u16],
+    kind: usize,
+    s: Shape,
+    i: usize,
+    bw: usize,
+    b: usize,
+)
+    requires { ⌜ ReadyOne s (2 ^ 60) i (now work) × (kind ≢ 0 → NumbersOne s i (now work)) × Precisions bw b × (length (now out) ≡ samples s (s .nc)) ⌝ }
+    ensures { λ _. ⌜ now (out .exit) ≡ withPlane s i (λ x y. outputOf kind bw b (valuesIn s (now (work .entry)) i x y)) (now (out .entry)) ⌝ }
 {
     let at = samples_before(s, i);
     let n = area_of(s, i);
     let from = 2 * at;
     let to = from + n;
     let end = at + n;
-    output::linear_output(&work[from..to], &mut out[at..end], bw as u64, b as u64);
+    output::linear_output(
+        &work[from..to],
+        &mut out[at..end],
+        kind,
+        bw as u64,
+        b as u64,
+    );
+}
+
+// Annex G of every component.
+fn all_outputs(work: &[i64], out: &mut [u16], kind: usize, s: Shape, bw: usize, depth: [usize; 4])
+    requires { ⌜ Ready s (2 ^ 60) (now work) × (kind ≢ 0 → HoldingNumbers s (now work)) × Depths s bw depth × (length (now out) ≡ samples s (s .nc)) ⌝ }
+    ensures { λ _. ⌜ now (out .exit) ≡ planes s (outputsOf kind bw (λ i. getD depth i 0) (valuesIn s (now (work .entry)))) (s .nc) ⌝ }
+{
+    let n = s.nc;
+    let mut i = 0;
+    while i < n {
+        component_output(work, out, kind, s, i, bw, depth[i]);
+        i += 1;
+    }
 }
 
 // Annex G: the samples of all components, which fill `out`.
@@ -106,10 +134,36 @@ pub fn samples(work: &[i64], out: &mut [u16], s: Shape, bw: usize, depth: [usize
     requires { ⌜ Ready s (2 ^ 60) (now work) × Depths s bw depth × (length (now out) ≡ samples s (s .nc)) ⌝ }
     ensures { λ _. ⌜ now (out .exit) ≡ planes s (sampled bw (λ i. getD depth i 0) (valuesIn s (now (work .entry)))) (s .nc) ⌝ }
 {
+    all_outputs(work, out, 0, s, bw, depth);
+}
+
+// Document 01's rules 4 and 5: the distance of each sample's place, which fill `out` as the samples fill theirs.
+pub fn place_distances(work: &[i64], out: &mut [u16], s: Shape, bw: usize, depth: [usize; 4])
+    requires { ⌜ Ready s (2 ^ 60) (now work) × HoldingNumbers s (now work) × Depths s bw depth × (length (now out) ≡ samples s (s .nc)) ⌝ }
+    ensures { λ _. ⌜ now (out .exit) ≡ planes s (measured bw (λ i. getD depth i 0) (sizes (valuesIn s (now (work .entry))))) (s .nc) ⌝ }
+{
+    all_outputs(work, out, 1, s, bw, depth);
+}
+
+// The lost samples of component i, whose marks and distances are lent on.
+fn component_lost(marks: &[u8], out: &mut [u16], s: Shape, i: usize, b: usize)
+    requires { ⌜ Built s × (i < s .nc) × (b ≤ 16) × (length (now marks) ≡ samples s (s .nc)) × (length (now out) ≡ samples s (s .nc)) ⌝ }
+    ensures { λ _. ⌜ now (out .exit) ≡ withPlane s i (markedDistances s (λ _. b) (now (marks .entry)) (now (out .entry)) i) (now (out .entry)) ⌝ }
+{
+    let at = samples_before(s, i);
+    let end = at + area_of(s, i);
+    output::lost_output(&marks[at..end], &mut out[at..end], b as u64);
+}
+
+// Of a damaged page: the samples that are marked have 2^B − 1 instead.
+pub fn lost_distances(marks: &[u8], out: &mut [u16], s: Shape, depth: [usize; 4])
+    requires { ⌜ Built s × ((i : ℕ) → i < s .nc → getD depth i 0 ≤ 16) × (length (now marks) ≡ samples s (s .nc)) × (length (now out) ≡ samples s (s .nc)) ⌝ }
+    ensures { λ _. ⌜ now (out .exit) ≡ planes s (markedDistances s (λ i. getD depth i 0) (now (marks .entry)) (now (out .entry))) (s .nc) ⌝ }
+{
     let n = s.nc;
     let mut i = 0;
     while i < n {
-        component_samples(work, out, s, i, bw, depth[i]);
+        component_lost(marks, out, s, i, depth[i]);
         i += 1;
     }
 }

@@ -3,10 +3,9 @@ use mathlib.Core.Path.{_≡_, refl, sym, ap, _∙_, subst}
 use mathlib.Core.Bool.{Bool, true, false, cond}
 use mathlib.Core.List.{List, []}
 use Prim.Native.Nat.{ℕ, _+_, _*_, _^_, _≤_, _<_}
-use native.Mathlib.Decide.{decLt}
 use native.Mathlib.Omega.{arith}
 use lib.IntN.{ℤ, pos}
-use lib.ListN.{length, getD, replicate, length-replicate, getD-replicate, List·getD-eq-default}
+use lib.ListN.{length, getD, replicate, length-replicate, getD-replicate}
 use lib.Pow.{pow-mono}
 use Rattle.whole.specs.Cells.{cell, Bounded}
 use Rattle.whole.proofs.Lists.{replicated}
@@ -33,7 +32,8 @@ use Rattle.reader.specs.Settings.{settingOf, N}
 use Rattle.reader.specs.Decoding.{handed, distancesFrom, begun}
 use Rattle.reader.specs.Page.{pageBy}
 use Rattle.reader.specs.Modes.{decodedBy, topsIn, lostMarks}
-use Rattle.reader.specs.Steps.{Opened, Decoded, IsSetting, Markable, filledBy, Shows, marksFrom, MarkedIn, DecodesIn}
+use Rattle.reader.specs.Places.{distancePlane}
+use Rattle.reader.specs.Steps.{Opened, Decoded, IsSetting, Markable, PlaceableBy, filledBy, Shows, marksFrom, MarkedIn, PlacedIn, DecodesBy}
 use Rattle.reader.proofs.Lost.{marks-told}
 use Rattle.reader.proofs.Openings.{fq-few, settled}
 
@@ -134,12 +134,28 @@ module _ {s : List ℕ} {h : Header} (o : Opened s h) (damaged : Bool) {v : Verd
         by Fine false p q = refl
         by Fine true p q = marks-told o (λ i. p i .0) w″ (λ n far. q .other n far ∙ (λ i. cell (sym p i .1 .2) n))
 
-    pub decodes : {w w‴ w⁗ : List ℤ} {m′ : List ℕ} → length w ≡ 2 * N h → MarkedIn v damaged h w″ w‴ m m′ → w⁗ ≡ replicate (length w‴) (pos 0)
-        → DecodesIn damaged s h a w m r a′ w⁗ m′
-    decodes l k e =
-        record {
-          page = q .page ∙ (λ i. pageBy (sym p i .0) h (distancesFrom h (sym p i .1 .1)));
-          samples = q .samples ∙ (λ i. filledBy (sym p i .0) (handed h (coefficientsIn (shapeOf h) (sym p i .1 .2))) a);
-          work = e ∙ ap (λ (n : ℕ). replicate n (pos 0)) (k .same ∙ q .same ∙ left-long ∙ sym l);
-          marks = k .marks ∙ marks-right ∙ (λ i. filledBy (sym p i .0) (cond damaged (lostMarks s h) []) m);
-        }
+    -- where the marks are made
+    module _ (placed : Bool) {w‴ : List ℤ} {m′ : List ℕ} (k : MarkedIn v damaged h w″ w‴ m m′) where
+      pub placed-of : (n : ℕ) → n ≡ cond placed (N h) 0 → PlaceableBy v damaged placed s h (length w‴) m′ n
+      placed-of n room =
+          record {
+            opened = o;
+            verdict = λ i. sym p i .0;
+            enough = k .same ∙ q .same ∙ left-long;
+            marks = λ fine. k .marks ∙ marks-right ∙ (λ i. filledBy (fine i) (cond damaged (lostMarks s h) []) m);
+            room = room;
+          }
+
+      pub decodes : {w w⁗ w⁵ : List ℤ} {d d′ : List ℕ} → length w ≡ 2 * N h → PlacedIn v damaged placed s h w‴ w⁗ d d′ → w⁵ ≡ replicate (length w⁗) (pos 0)
+          → DecodesBy damaged placed s h a w m d r a′ w⁵ m′ d′
+      decodes {d = d} l t e =
+          record {
+            beside =
+                record {
+                  page = q .page ∙ (λ i. pageBy (sym p i .0) h (distancesFrom h (sym p i .1 .1)));
+                  samples = q .samples ∙ (λ i. filledBy (sym p i .0) (handed h (coefficientsIn (shapeOf h) (sym p i .1 .2))) a);
+                  work = e ∙ ap (λ (n : ℕ). replicate n (pos 0)) (t .same ∙ k .same ∙ q .same ∙ left-long ∙ sym l);
+                  marks = k .marks ∙ marks-right ∙ (λ i. filledBy (sym p i .0) (cond damaged (lostMarks s h) []) m);
+                };
+            distances = t .distances ∙ (λ i. filledBy (sym p i .0) (cond placed (distancePlane s h damaged) []) d);
+          }

@@ -23,12 +23,9 @@ use Rattle.layout.proofs.Cells.{inside, cell-below, starts-up}
 use Rattle.layout.proofs.Slices.{coefficient-slice}
 use Rattle.header.specs.declared.header.Header.{Header}
 use Rattle.shapes.specs.Shapes.{shapeOf}
-use Rattle.damage.specs.Lost.{lostCount}
-use Rattle.damage.specs.Stream.{spoilt}
 use Rattle.damage.proofs.Kept.{lost-marked, kept-unmarked}
-use Rattle.planes.specs.Places.{Inside}
 use Rattle.planes.specs.Marks.{markOf, bit}
-use Rattle.planes.proofs.Laws.{Every}
+use Rattle.planes.specs.Values.{Every}
 use Rattle.planes.proofs.Planes.{planes-same}
 use Rattle.planes.proofs.Marking.{mark-same}
 use Rattle.distances.specs.Rule.{type-of}

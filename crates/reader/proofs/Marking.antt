@@ -19,10 +19,10 @@ use Rattle.planes.specs.Values.{planes}
 use Rattle.planes.specs.Places.{valuesIn, Inside, Colours, Ready, Holding}
 use Rattle.planes.specs.Numbers.{numbersOf, held, numbersIn, HoldingNumbers}
 use Rattle.planes.specs.Marks.{markOf, bit, marksIn}
-use Rattle.planes.proofs.Laws.{numbers-small, held-ready}
 use Rattle.planes.proofs.Stretches.{offset-below}
 use Rattle.planes.proofs.Marking.{marks-written}
 use Rattle.reader.specs.Steps.{isLost, lostIn, MarkedIn}
+use Rattle.reader.proofs.Shown.{numbered-ready}
 
 lost-bit : (z : ℤ) → lostNumber z ≡ pos (bit (isLost z))
 lost-bit (pos n) = refl
@@ -45,7 +45,7 @@ module _ {s : Shape} (built : Built s) {l l₁ : List ℤ} (room : start s (s .n
   -- where Annexes E and F have been undone with these numbers
   module _ {Cpih : ℕ} (colours : Colours s Cpih) {l₂ : List ℤ} (made : Holding s (held (numbersOf s Cpih (numbersIn s l₁))) l₁ l₂) where
     pub marks-ready : Ready s (2 ^ 60) l₂
-    marks-ready = held-ready numbers-ready (numbers-small numbers-ready colours) made
+    marks-ready = numbered-ready numbers-ready colours made
 
     pub marks-made : {m′ : List ℕ} → m′ ≡ planes s (marksIn s l₂) (s .nc) → m′ ≡ planes s (λ i x y. bit (markOf s Cpih (lostIn s l) i x y)) (s .nc)
     marks-made e =
@@ -54,10 +54,16 @@ module _ {s : Shape} (built : Built s) {l l₁ : List ℤ} (room : start s (s .n
         (λ i h k dx dy x y d. let p = inside d in number-is i _ _ (record { component = h; column = p .0; row = p .1 }))
         made
 
--- a plain reading is lent no marks, and leaves none
+-- of a plane that is not asked for no cell is lent
 no-element : (m : List ℕ) → length m ≡ 0 → m ≡ []
 no-element [] e = refl
 no-element (x ∷ m) e = absurd (omega (arith, e))
 
+pub none-lent : {asked : Bool} (n : ℕ) (m : List ℕ) → asked ≡ false → length m ≡ cond asked n 0 → m ≡ []
+none-lent n m e l = no-element m (l ∙ (λ i. cond (e i) n 0))
+
+-- a plain reading is lent no marks, and leaves none
 pub marked-not : {damaged : Bool} {h : Header} (n : ℕ) {w : List ℤ} (m : List ℕ) → damaged ≡ false → length m ≡ cond damaged n 0 → MarkedIn Fine damaged h w w m m
-marked-not n m e l = rw e (record { marks = no-element m (l ∙ (λ i. cond (e i) n 0)); same = refl })
+marked-not n m e l =
+    let none = none-lent n m e l in
+    rw e (record { marks = none; same = refl })

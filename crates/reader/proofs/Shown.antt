@@ -12,8 +12,9 @@ use Rattle.header.specs.declared.header.Header.{Header}
 use Rattle.shapes.specs.Shapes.{shapeOf}
 use Rattle.planes.specs.Values.{transformed, coloured, sampled, planes}
 use Rattle.planes.specs.Places.{valuesIn, coefficientsIn, Colours, Ready, Holding}
+use Rattle.planes.specs.Numbers.{numbersOf, held, numbersIn}
 use Rattle.planes.proofs.Planes.{planes-held}
-use Rattle.planes.proofs.Laws.{values-small, held-ready}
+use Rattle.planes.proofs.Laws.{values-small, numbers-small, held-ready}
 use Rattle.distances.specs.Rule.{distancesOf}
 use Rattle.reader.specs.declared.page.Page.{Page}
 use Rattle.reader.specs.Settings.{depthOf}
@@ -23,6 +24,10 @@ use Rattle.reader.specs.Steps.{Shows}
 
 pub values-ready : {s : Shape} {cpih : ℕ} {l l′ : List ℤ} → Ready s (2 ^ 40) l → Colours s cpih → Holding s (coloured cpih (transformed s (coefficientsIn s l))) l l′ → Ready s (2 ^ 60) l′
 values-ready r c h = held-ready r (values-small r c) h
+
+-- and numbers behind both annexes
+pub numbered-ready : {s : Shape} {cpih : ℕ} {l l′ : List ℤ} → Ready s (2 ^ 40) l → Colours s cpih → Holding s (held (numbersOf s cpih (numbersIn s l))) l l′ → Ready s (2 ^ 60) l′
+numbered-ready r c h = held-ready r (numbers-small r c) h
 
 -- what the three parts of `show` leave
 module _ {h : Header} {tops a a′ d : List ℕ} {w w′ : List ℤ} {r : Page} where

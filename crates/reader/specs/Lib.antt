@@ -3,5 +3,6 @@ pub mod Settings
 pub mod Decoding
 pub mod Page
 pub mod Modes
+pub mod Places
 pub mod Steps
 pub mod Sizes

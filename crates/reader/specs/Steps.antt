@@ -18,6 +18,7 @@ use Rattle.header.specs.declared.header.Header.{Header}
 use Rattle.shapes.specs.Shapes.{shapeOf}
 use Rattle.packets.specs.declared.Setting.{Setting}
 use Rattle.packets.specs.Ready.{Settled}
+use Rattle.slices.specs.Walk.{walkStream}
 use Rattle.planes.specs.Values.{Bands, planes}
 use Rattle.planes.specs.Marks.{markOf, bit}
 use Rattle.planes.specs.Places.{coefficientsIn, Ready}
@@ -26,6 +27,7 @@ use Rattle.reader.specs.Settings.{settingOf, N}
 use Rattle.reader.specs.Decoding.{handed, distancesFrom}
 use Rattle.reader.specs.Page.{pageBy}
 use Rattle.reader.specs.Modes.{verdictIn, topsIn, coefficientsOf, lostMarks}
+use Rattle.reader.specs.Places.{placeDistance, distancePlane}
 
 -- ---- what is asked
 
@@ -47,6 +49,21 @@ pub record Markable (h : Header) (marks : ℕ) (cells : List ℤ) : Type 0 where
   pub built : Built (shapeOf h)
   pub enough : start (shapeOf h) (shapeOf h .nc) ≤ length cells
   pub room : marks ≡ N h
+
+-- precincts that the walk finds, room for the cells of the components, and for as many distances as there are samples
+pub record Placeable (s : List ℕ) (h : Header) (cells plane : ℕ) : Type 0 where
+  pub opened : Opened s h
+  pub walked : walkStream s (settingOf h) (h .slice) .0 ≡ Fine
+  pub enough : cells ≡ 2 * N h
+  pub room : plane ≡ N h
+
+-- the verdict v of the slices; of a page that is read the marks that its mode has; and the distances only where a plane is asked for
+pub record PlaceableBy (v : Verdict) (damaged placed : Bool) (s : List ℕ) (h : Header) (cells : ℕ) (m : List ℕ) (plane : ℕ) : Type 0 where
+  pub opened : Opened s h
+  pub verdict : v ≡ verdictIn s h damaged
+  pub enough : cells ≡ 2 * N h
+  pub marks : v ≡ Fine → m ≡ cond damaged (lostMarks s h) []
+  pub room : plane ≡ cond placed (N h) 0
 
 -- ---- what is answered
 
@@ -89,8 +106,23 @@ pub record MarkedIn (v : Verdict) (damaged : Bool) (h : Header) (w w′ : List �
   pub marks : m′ ≡ filledBy v (cond damaged (marksFrom h w) []) m
   pub same : length w′ ≡ length w
 
+-- the distances of a page in which nothing is lost
+pub record Placed (s : List ℕ) (h : Header) (w w′ : List ℤ) (d′ : List ℕ) : Type 0 where
+  pub distances : d′ ≡ planes (shapeOf h) (placeDistance s h) (h .picture .nc)
+  pub same : length w′ ≡ length w
+
+-- by the verdict v, in either mode, where a plane is asked for or not
+pub record PlacedIn (v : Verdict) (damaged placed : Bool) (s : List ℕ) (h : Header) (w w′ : List ℤ) (d d′ : List ℕ) : Type 0 where
+  pub distances : d′ ≡ filledBy v (cond placed (distancePlane s h damaged) []) d
+  pub same : length w′ ≡ length w
+
 pub record DecodesIn (damaged : Bool) (s : List ℕ) (h : Header) (a : List ℕ) (w : List ℤ) (m : List ℕ) (r : Page) (a′ : List ℕ) (w′ : List ℤ) (m′ : List ℕ) : Type 0 where
   pub page : r ≡ pageBy (verdictIn s h damaged) h (distancesFrom h (topsIn s h damaged))
   pub samples : a′ ≡ filledBy (verdictIn s h damaged) (handed h (coefficientsOf s h damaged)) a
   pub work : w′ ≡ replicate (length w) (pos 0)
   pub marks : m′ ≡ filledBy (verdictIn s h damaged) (cond damaged (lostMarks s h) []) m
+
+-- with a plane, or without one
+pub record DecodesBy (damaged placed : Bool) (s : List ℕ) (h : Header) (a : List ℕ) (w : List ℤ) (m d : List ℕ) (r : Page) (a′ : List ℕ) (w′ : List ℤ) (m′ d′ : List ℕ) : Type 0 where
+  pub beside : DecodesIn damaged s h a w m r a′ w′ m′
+  pub distances : d′ ≡ filledBy (verdictIn s h damaged) (cond placed (distancePlane s h damaged) []) d

@@ -1,4 +1,4 @@
-// Reads a page: the header, row 5, the slices into the work cells, then samples and distances.
+// Reads a page: the header, row 5, the slices into the work cells, then samples and distances; where they are asked for, marks, and a distance for each sample.
 pub mod page;
 mod records;
 mod settings;
@@ -16,20 +16,20 @@ use rows::Field;
 use rows::Row;
 use rows::Verdict;
 ghost use mathlib.Core.Path.{_≡_};
-ghost use mathlib.Core.Bool.{cond};
+ghost use mathlib.Core.Bool.{true, cond};
 ghost use mathlib.Core.List.{[], _∷_};
 ghost use Prim.Native.Nat.{_*_, _^_, _≤_};
 ghost use lib.IntN.{pos};
 ghost use lib.ListN.{length, replicate};
 ghost use Rattle.rows.specs.Rows.{check, ample, first, then};
 ghost use Rattle.rows.specs.declared.Row.the-variants.{Lent};
-ghost use Rattle.rows.specs.declared.Field.the-variants.{Marks};
 ghost use Rattle.rows.specs.declared.Verdict.the-variants.{Fine};
 ghost use Rattle.header.specs.Header.{readingOf};
 ghost use Rattle.reader.specs.Settings.{N};
 ghost use Rattle.reader.specs.Page.{Reads};
-ghost use Rattle.reader.specs.Modes.{verdictIn, roomChecksIn, LeavesIn, ReadsIn, ReadsDamaged};
-ghost use Rattle.reader.specs.Steps.{Opened, Decoded, Shows, Markable, Marked, MarkedIn, DecodesIn};
+ghost use Rattle.reader.specs.Modes.{verdictIn, ReadsDamaged};
+ghost use Rattle.reader.specs.Places.{roomChecksBy, LeavesBy, ReadsBy, ReadsPlaces, ReadsDamagedPlaces};
+ghost use Rattle.reader.specs.Steps.{Opened, Decoded, Shows, Markable, Marked, MarkedIn, Placeable, PlaceableBy, Placed, PlacedIn, DecodesBy};
 
 // All cells 0.
 fn clear(cells: &mut [i64])
@@ -101,17 +101,92 @@ fn mark_by(v: Verdict, damaged: bool, cells: &mut [i64], marks: &mut [u8], h: He
     }
 }
 
-// The page behind an accepted header, into N samples and, of a damaged page, N marks, by 2N work cells. There is one way out, past the last `clear`.
+// The distance of each sample of a page in which nothing is lost. The coefficient cells are free again: they take each coefficient's number.
+fn place(stream: &[u8], cells: &mut [i64], distances: &mut [u16], h: Header)
+    requires { ⌜ Placeable (now stream) h (length (now cells)) (length (now distances)) ⌝ }
+    ensures { λ _. ⌜ Placed (now (stream .entry)) h (now (cells .entry)) (now (cells .exit)) (now (distances .exit)) ⌝ }
+{
+    let c = setting_of(h);
+    let s = shapes::shape_of(h);
+    let p = h.picture;
+    let depth = h.depth;
+    places::fill(stream, cells, c, h.slice);
+    planes::numbers(cells, s, p.cpih);
+    planes::place_distances(cells, distances, s, p.bw, depth);
+}
+
+// The same, and of a damaged page the largest distance where the sample is marked.
+fn place_lost(
+    damaged: bool,
+    stream: &[u8],
+    cells: &mut [i64],
+    marks: &[u8],
+    distances: &mut [u16],
+    h: Header,
+)
+    requires { ⌜ PlaceableBy Fine damaged true (now stream) h (length (now cells)) (now marks) (length (now distances)) ⌝ }
+    ensures { λ _. ⌜ PlacedIn Fine damaged true (now (stream .entry)) h (now (cells .entry)) (now (cells .exit)) (now (distances .entry)) (now (distances .exit)) ⌝ }
+{
+    place(stream, cells, distances, h);
+    if damaged {
+        let s = shapes::shape_of(h);
+        let depth = h.depth;
+        planes::lost_distances(marks, distances, s, depth);
+    }
+}
+
+// The same where a plane is asked for, and nothing else.
+fn place_in(
+    damaged: bool,
+    placed: bool,
+    stream: &[u8],
+    cells: &mut [i64],
+    marks: &[u8],
+    distances: &mut [u16],
+    h: Header,
+)
+    requires { ⌜ PlaceableBy Fine damaged placed (now stream) h (length (now cells)) (now marks) (length (now distances)) ⌝ }
+    ensures { λ _. ⌜ PlacedIn Fine damaged placed (now (stream .entry)) h (now (cells .entry)) (now (cells .exit)) (now (distances .entry)) (now (distances .exit)) ⌝ }
+{
+    if placed {
+        place_lost(damaged, stream, cells, marks, distances, h);
+    }
+}
+
+// And nothing where the slices are refused.
+fn place_by(
+    v: Verdict,
+    damaged: bool,
+    placed: bool,
+    stream: &[u8],
+    cells: &mut [i64],
+    marks: &[u8],
+    distances: &mut [u16],
+    h: Header,
+)
+    requires { ⌜ PlaceableBy v damaged placed (now stream) h (length (now cells)) (now marks) (length (now distances)) ⌝ }
+    ensures { λ _. ⌜ PlacedIn v damaged placed (now (stream .entry)) h (now (cells .entry)) (now (cells .exit)) (now (distances .entry)) (now (distances .exit)) ⌝ }
+{
+    match v {
+        Verdict::Fine => place_in(damaged, placed, stream, cells, marks, distances, h),
+        Verdict::Refused(_) => {}
+    }
+}
+
+// The page behind an accepted header, into N samples, of a damaged page N marks and, where a plane is asked for, N distances, by 2N work cells.
+// There is one way out, past the last `clear`.
 fn decode(
     damaged: bool,
+    placed: bool,
     stream: &[u8],
     samples: &mut [u16],
     cells: &mut [i64],
     marks: &mut [u8],
+    distances: &mut [u16],
     h: Header,
 ) -> Page
-    requires { ⌜ Opened (now stream) h × (length (now samples) ≡ N h) × (length (now cells) ≡ 2 * N h) × (length (now marks) ≡ cond damaged (N h) 0) ⌝ }
-    ensures { λ r. ⌜ DecodesIn damaged (now (stream .entry)) h (now (samples .entry)) (now (cells .entry)) (now (marks .entry)) r (now (samples .exit)) (now (cells .exit)) (now (marks .exit)) ⌝ }
+    requires { ⌜ Opened (now stream) h × (length (now samples) ≡ N h) × (length (now cells) ≡ 2 * N h) × (length (now marks) ≡ cond damaged (N h) 0) × (length (now distances) ≡ cond placed (N h) 0) ⌝ }
+    ensures { λ r. ⌜ DecodesBy damaged placed (now (stream .entry)) h (now (samples .entry)) (now (cells .entry)) (now (marks .entry)) (now (distances .entry)) r (now (samples .exit)) (now (cells .exit)) (now (marks .exit)) (now (distances .exit)) ⌝ }
 {
     let c = setting_of(h);
     clear(cells);
@@ -120,64 +195,73 @@ fn decode(
     let tops = r.tops;
     let page = show_by(v, samples, cells, h, tops);
     mark_by(v, damaged, cells, marks, h);
+    place_by(v, damaged, placed, stream, cells, marks, distances, h);
     clear(cells);
     page
 }
 
-// Row 5, at the first slice header: of a damaged page, N marks.
-fn marks_row(damaged: bool, h: Header, n: usize, marks: usize) -> Verdict
+// Row 5, at the first slice header: N cells of a plane, where it is asked for.
+fn plane_row(asked: bool, h: Header, plane: Field, n: usize, cells: usize) -> Verdict
     requires { ⌜ n ≡ N h ⌝ }
-    ensures { λ r. ⌜ r ≡ first (cond damaged (check Lent (h .slice) Marks marks (N h) ample ∷ []) []) ⌝ }
+    ensures { λ r. ⌜ r ≡ first (cond asked (check Lent (h .slice) plane cells (N h) ample ∷ []) []) ⌝ }
 {
-    if damaged {
-        return rows::one(Check(Row::Lent, h.slice, Field::Marks, marks, n, AMPLE));
+    if asked {
+        return rows::one(Check(Row::Lent, h.slice, plane, cells, n, AMPLE));
     }
     Verdict::Fine
 }
 
-// Before them N sample cells, and 2N work cells.
+// Before the planes N sample cells, and 2N work cells.
 fn room_row(
     damaged: bool,
+    placed: bool,
     h: Header,
     n: usize,
     samples: usize,
     work: usize,
     marks: usize,
+    distances: usize,
 ) -> Verdict
     requires { ⌜ (n ≡ N h) × (n ≤ 2 ^ 30) ⌝ }
-    ensures { λ r. ⌜ r ≡ first (roomChecksIn damaged h samples work marks) ⌝ }
+    ensures { λ r. ⌜ r ≡ first (roomChecksBy damaged placed h samples work marks distances) ⌝ }
 {
     let plain = rows::two(
         Check(Row::Lent, h.slice, Field::Samples, samples, n, AMPLE),
         Check(Row::Lent, h.slice, Field::Work, work, 2 * n, AMPLE),
     );
-    rows::then(plain, marks_row(damaged, h, n, marks))
+    let marked = rows::then(plain, plane_row(damaged, h, Field::Marks, n, marks));
+    rows::then(marked, plane_row(placed, h, Field::Distances, n, distances))
 }
 
-// Where row 5 has passed, the first N samples, the first 2N work cells and, of a damaged page, the first N marks are lent on.
+// Where row 5 has passed, the first N samples, the first 2N work cells and, of each plane that is asked for, the first N cells are lent on.
 fn decode_by(
     v: Verdict,
     damaged: bool,
+    placed: bool,
     stream: &[u8],
     samples: &mut [u16],
     work: &mut [i64],
     marks: &mut [u8],
+    distances: &mut [u16],
     h: Header,
     n: usize,
 ) -> Page
-    requires { ⌜ Opened (now stream) h × (n ≡ N h) × (n ≤ 2 ^ 30) × (v ≡ first (roomChecksIn damaged h (length (now samples)) (length (now work)) (length (now marks)))) ⌝ }
-    ensures { λ r. ⌜ LeavesIn damaged (now (stream .entry)) h v (then v (verdictIn (now (stream .entry)) h damaged)) (now (samples .entry)) (now (work .entry)) (now (marks .entry)) r (now (samples .exit)) (now (work .exit)) (now (marks .exit)) ⌝ }
+    requires { ⌜ Opened (now stream) h × (n ≡ N h) × (n ≤ 2 ^ 30) × (v ≡ first (roomChecksBy damaged placed h (length (now samples)) (length (now work)) (length (now marks)) (length (now distances)))) ⌝ }
+    ensures { λ r. ⌜ LeavesBy damaged placed (now (stream .entry)) h v (then v (verdictIn (now (stream .entry)) h damaged)) (now (samples .entry)) (now (work .entry)) (now (marks .entry)) (now (distances .entry)) r (now (samples .exit)) (now (work .exit)) (now (marks .exit)) (now (distances .exit)) ⌝ }
 {
     match v {
         Verdict::Fine => {
             let cells = 2 * n;
             let marked = rows::choose(damaged, n, 0);
+            let planed = rows::choose(placed, n, 0);
             decode(
                 damaged,
+                placed,
                 stream,
                 &mut samples[..n],
                 &mut work[..cells],
                 &mut marks[..marked],
+                &mut distances[..planed],
                 h,
             )
         }
@@ -189,53 +273,115 @@ fn decode_by(
 fn read_by(
     v: Verdict,
     damaged: bool,
+    placed: bool,
     stream: &[u8],
     samples: &mut [u16],
     work: &mut [i64],
     marks: &mut [u8],
+    distances: &mut [u16],
     h: Header,
 ) -> Page
     requires { ⌜ (v ≡ readingOf (now stream) .verdict) × (h ≡ readingOf (now stream) .header) ⌝ }
-    ensures { λ r. ⌜ ReadsIn damaged (now (stream .entry)) (now (samples .entry)) (now (work .entry)) (now (marks .entry)) r (now (samples .exit)) (now (work .exit)) (now (marks .exit)) ⌝ }
+    ensures { λ r. ⌜ ReadsBy damaged placed (now (stream .entry)) (now (samples .entry)) (now (work .entry)) (now (marks .entry)) (now (distances .entry)) r (now (samples .exit)) (now (work .exit)) (now (marks .exit)) (now (distances .exit)) ⌝ }
 {
     match v {
         Verdict::Fine => {
             let s = shapes::shape_of(h);
             let n = samples_before(s, s.nc);
-            let w = room_row(damaged, h, n, samples.len(), work.len(), marks.len());
-            decode_by(w, damaged, stream, samples, work, marks, h, n)
+            let w = room_row(
+                damaged,
+                placed,
+                h,
+                n,
+                samples.len(),
+                work.len(),
+                marks.len(),
+                distances.len(),
+            );
+            decode_by(
+                w,
+                damaged,
+                placed,
+                stream,
+                samples,
+                work,
+                marks,
+                distances,
+                h,
+                n,
+            )
         }
         Verdict::Refused(_) => refused(v),
     }
 }
 
-// Reads a page in either mode. Every entry point is a call of this.
+// Reads a page in either mode, with a plane of distances or without one. Every entry point is a call of this.
 fn read_in(
     damaged: bool,
+    placed: bool,
     stream: &[u8],
     samples: &mut [u16],
     work: &mut [i64],
     marks: &mut [u8],
+    distances: &mut [u16],
 ) -> Page
-    ensures { λ r. ⌜ ReadsIn damaged (now (stream .entry)) (now (samples .entry)) (now (work .entry)) (now (marks .entry)) r (now (samples .exit)) (now (work .exit)) (now (marks .exit)) ⌝ }
+    ensures { λ r. ⌜ ReadsBy damaged placed (now (stream .entry)) (now (samples .entry)) (now (work .entry)) (now (marks .entry)) (now (distances .entry)) r (now (samples .exit)) (now (work .exit)) (now (marks .exit)) (now (distances .exit)) ⌝ }
 {
     let r = header::read(stream);
     let v = r.verdict;
     let h = r.header;
-    read_by(v, damaged, stream, samples, work, marks, h)
+    read_by(
+        v,
+        damaged,
+        placed,
+        stream,
+        samples,
+        work,
+        marks,
+        distances,
+        h,
+    )
 }
 
 // Reads a page, or refuses it. Nothing is asked of the stream or of the buffers lent.
 pub fn read(stream: &[u8], samples: &mut [u16], work: &mut [i64]) -> Page
     ensures { λ r. ⌜ Reads (now (stream .entry)) (now (samples .entry)) (now (work .entry)) r (now (samples .exit)) (now (work .exit)) ⌝ }
 {
-    let mut none: [u8; 0] = [0; 0];
-    read_in(false, stream, samples, work, &mut none)
+    let mut marks: [u8; 0] = [0; 0];
+    let mut plane: [u16; 0] = [0; 0];
+    read_in(false, false, stream, samples, work, &mut marks, &mut plane)
 }
 
 // Reads a page whose slices may be spoilt: their coefficients are lost, and each sample that depends on one is marked. Nothing is asked here either.
 pub fn read_damaged(stream: &[u8], samples: &mut [u16], work: &mut [i64], marks: &mut [u8]) -> Page
     ensures { λ r. ⌜ ReadsDamaged (now (stream .entry)) (now (samples .entry)) (now (work .entry)) (now (marks .entry)) r (now (samples .exit)) (now (work .exit)) (now (marks .exit)) ⌝ }
 {
-    read_in(true, stream, samples, work, marks)
+    let mut plane: [u16; 0] = [0; 0];
+    read_in(true, false, stream, samples, work, marks, &mut plane)
+}
+
+// Reads a page as `read` does, and gives each sample its own distance.
+pub fn read_places(
+    stream: &[u8],
+    samples: &mut [u16],
+    work: &mut [i64],
+    distances: &mut [u16],
+) -> Page
+    ensures { λ r. ⌜ ReadsPlaces (now (stream .entry)) (now (samples .entry)) (now (work .entry)) (now (distances .entry)) r (now (samples .exit)) (now (work .exit)) (now (distances .exit)) ⌝ }
+{
+    let mut marks: [u8; 0] = [0; 0];
+    read_in(false, true, stream, samples, work, &mut marks, distances)
+}
+
+// Reads a page as `read_damaged` does, and gives each sample its own distance, the largest where it is marked.
+pub fn read_damaged_places(
+    stream: &[u8],
+    samples: &mut [u16],
+    work: &mut [i64],
+    marks: &mut [u8],
+    distances: &mut [u16],
+) -> Page
+    ensures { λ r. ⌜ ReadsDamagedPlaces (now (stream .entry)) (now (samples .entry)) (now (work .entry)) (now (marks .entry)) (now (distances .entry)) r (now (samples .exit)) (now (work .exit)) (now (marks .exit)) (now (distances .exit)) ⌝ }
+{
+    read_in(true, true, stream, samples, work, marks, distances)
 }

@@ -78,6 +78,7 @@ pub enum Field {
     Samples,
     Work,
     Marks,
+    Distances,
     // slices and precincts
     Slh,
     Lslh,

@@ -1,7 +1,8 @@
 -- Laws of putting texts: one after another, and what a text at the buffer's beginning leaves. Assumes nothing.
-use Prim.Native.Nat.{ℕ, zero, suc, _+_, _^_, _≤_, _<_, min}
-use mathlib.Core.Bool.{Bool, true, false, cond}
+use Prim.Native.Nat.{ℕ, suc, _+_, _^_, _≤_, _<_, min}
+use mathlib.Core.Bool.{true, false, cond}
 use mathlib.Core.List.{List, [], _∷_, _++_, append-assoc}
+use mathlib.Core.Logic.{inl, inr}
 use mathlib.Core.Path.{_≡_, refl, sym, ap, _∙_}
 use native.Mathlib.Numerals.{add-one}
 use native.Mathlib.Nat.{zero-min, min-zero, suc-min-suc, min-le-right}
@@ -10,14 +11,17 @@ use borrow.Author.Tests.{lt-ltb, le-ltb, ne-eqb}
 use lib.Dec.{leb}
 use lib.ListN.{length, set, take, drop, getD, length-append, length-set}
 use lib.Seq.{take-suc, take-nil, set-out, set-append-seam}
-use Rattle.show.specs.Text.{ascii, decimal, cellsOf, gap, cellsText, rowText, Part, also, nextRow, rows, widthOf, heightOf, title, component, components}
+use Rattle.show.specs.Text.{ascii, decimal, cellsOf, space, gap, cellsText, rowText, Part, also, nextRow, rows, widthOf, heightOf, title, component, components}
 use Rattle.show.specs.Buffer.{State, putByte, puts, Put, Shown, Leads}
 use Rattle.show.proofs.Counted.{counted}
 use Rattle.io.specs.Counts.{Counts}
 use Rattle.reader.specs.declared.page.Page.{Page}
 use Rattle.show.specs.declared.Progress.{Progress}
 use Rattle.show.specs.declared.Plane.{Plane}
-use Rattle.show.specs.declared.Plane.the-variants.{Samples, Marks}
+use Rattle.show.proofs.Plane.{the-type}
+use denote.Enum.Declared.{tagOf}
+use types.Run.{OneOf}
+use Rattle.show.specs.declared.Plane.the-variants.{Samples, Marks, Distances}
 
 -- ---- one byte
 
@@ -62,13 +66,31 @@ put-next x i h p q = rw (add-one, take-suc x i 0) (put-both p q)
 pub few-cells : (plane : Plane) (words marks : List ℕ) → length words < 2 ^ 64 → length marks < 2 ^ 64 → length (cellsOf plane words marks) < 2 ^ 64
 few-cells Samples words marks h k = h
 few-cells Marks words marks h k = k
+few-cells Distances words marks h k = h
 
--- the space before a sample
-pub put-no-gap : (x at : ℕ) (o : List ℕ) → x ≡ 0 → Put (gap Samples x) at o at o
-put-no-gap x at o h = rw h (put-none at o)
+-- samples and distances are words: the code has one arm for both, whose numbers are 0 and 2
+module _ (plane : Plane) (key : OneOf (0 ∷ 2 ∷ []) (tagOf the-type plane)) where
+  of-words : (P : Plane → Type 0) → P Samples → P Distances → P plane
+  of-words P a b = by plane key
+    where
+      by : (q : Plane) → OneOf (0 ∷ 2 ∷ []) (tagOf the-type q) → P q
+      by Samples k = a
+      by Marks (inl e) = absurd (omega (arith, e))
+      by Marks (inr e) = absurd (omega (arith, e))
+      by Distances k = b
 
-pub put-gap : {o o′ : List ℕ} {at r : ℕ} (x : ℕ) → 0 < x → Put (ascii " ") at o r o′ → Put (gap Samples x) at o r o′
-put-gap x h p = rw (ne-eqb x 0 (λ e. omega arith)) p
+  pub words-cells : (words marks : List ℕ) → cellsOf plane words marks ≡ words
+  words-cells words marks = of-words (λ q. cellsOf q words marks ≡ words) refl refl
+
+  pub words-gap : (x : ℕ) → gap plane x ≡ space x
+  words-gap x = of-words (λ q. gap q x ≡ space x) refl refl
+
+-- the space before a cell
+pub put-no-space : (x at : ℕ) (o : List ℕ) → x ≡ 0 → Put (space x) at o at o
+put-no-space x at o h = rw h (put-none at o)
+
+pub put-space : {o o′ : List ℕ} {at r : ℕ} (x : ℕ) → 0 < x → Put (ascii " ") at o r o′ → Put (space x) at o r o′
+put-space x h p = rw (ne-eqb x 0 (λ e. omega arith)) p
 
 -- one cell more of a row
 pub put-cell : {o o₁ o₂ o₃ : List ℕ} {at r₁ r₂ r₃ : ℕ} (plane : Plane) (cells : List ℕ) (next x : ℕ) → Put (cellsText plane cells next x) at o r₁ o₁

@@ -2,10 +2,10 @@
 use mathlib.Core.Bool.{cond}
 use mathlib.Core.List.{List, [], _∷_, _++_}
 use mathlib.Core.Path.{_≡_}
-use Prim.Native.Nat.{ℕ, _+_, _≤_, min}
+use Prim.Native.Nat.{ℕ, _+_, min}
 use lib.Dec.{ltb}
 use lib.ListN.{length, set, take, drop}
-use Rattle.show.specs.Text.{Part, pageText, damagedText}
+use Rattle.show.specs.Text.{Part, pageText, damagedText, placesText, damagedPlacesText}
 use Rattle.show.specs.declared.Progress.{Progress}
 use Rattle.reader.specs.declared.page.Page.{Page}
 
@@ -39,3 +39,9 @@ PageText p samples = Leads (pageText p samples)
 
 abbrev pub DamagedText : Page → List ℕ → List ℕ → List ℕ → ℕ → List ℕ → Type 0
 DamagedText p samples marks = Leads (damagedText p samples marks)
+
+abbrev pub PlacesText : Page → List ℕ → List ℕ → List ℕ → ℕ → List ℕ → Type 0
+PlacesText p samples distances = Leads (placesText p samples distances)
+
+abbrev pub DamagedPlacesText : Page → List ℕ → List ℕ → List ℕ → List ℕ → ℕ → List ℕ → Type 0
+DamagedPlacesText p samples marks distances = Leads (damagedPlacesText p samples marks distances)

@@ -1,6 +1,7 @@
 -- The text of a page as document 01 says: the answer and its place; then, for each component in order, a heading and one line of samples for each row. Of a
--- page that was read in spite of damage (request C-15) then, for each component in order, a line 'marks I' and one line of marks for each row.
-use mathlib.Core.Bool.{Bool, cond}
+-- page that was read in spite of damage (request C-15) then, for each component in order, a line 'marks I' and one line of marks for each row; of one that was
+-- read with a plane of distances (request C-22) last, likewise, a line 'distances I' and one line of distances for each row.
+use mathlib.Core.Bool.{cond}
 use mathlib.Core.List.{List, [], _∷_, _++_}
 use Prim.Native.Char.{code}
 use Prim.Native.Nat.{ℕ, zero, suc, _+_, _/_, _%_}
@@ -10,7 +11,7 @@ use lib.ListN.{length, getD}
 use Rattle.io.specs.Digits.{glyph}
 use Rattle.reader.specs.declared.page.Page.{Page}
 use Rattle.show.specs.declared.Plane.{Plane}
-use Rattle.show.specs.declared.Plane.the-variants.{Samples, Marks}
+use Rattle.show.specs.declared.Plane.the-variants.{Samples, Marks, Distances}
 
 -- ---- letters and digits, in ASCII
 
@@ -30,17 +31,26 @@ decimal n = digitsOf 20 n
 abbrev pub field : List ℕ → ℕ → List ℕ
 field name n = name ++ decimal n
 
--- ---- the planes of a page: samples, and marks
+abbrev pub line : List ℕ → ℕ → List ℕ
+line name n = field name n ++ ascii "\n"
 
--- the cells of a plane, of `words` and `marks` that are lent
+-- ---- the planes of a page: samples, marks, and distances
+
+-- the cells of a plane, of `words` and `marks` that are lent: samples and distances are words
 abbrev pub cellsOf : Plane → List ℕ → List ℕ → List ℕ
 cellsOf Samples words marks = words
 cellsOf Marks words marks = marks
+cellsOf Distances words marks = words
 
--- what stands before cell x of a row: samples are 'separated by single spaces', marks are 'digits without spaces'
+-- a single space between two cells of a row
+abbrev pub space : ℕ → List ℕ
+space x = cond (eqb x 0) [] (ascii " ")
+
+-- what stands before cell x of a row: samples and distances are 'separated by single spaces', marks are 'digits without spaces'
 abbrev pub gap : Plane → ℕ → List ℕ
-gap Samples x = cond (eqb x 0) [] (ascii " ")
+gap Samples x = space x
 gap Marks x = []
+gap Distances x = space x
 
 -- ---- parts of the text that use up cells
 
@@ -95,7 +105,8 @@ module _ (p : Page) where
   -- the line above the rows of component i
   abbrev pub title : Plane → ℕ → List ℕ
   title Samples i = heading i
-  title Marks i = field (ascii "marks ") i ++ ascii "\n"
+  title Marks i = line (ascii "marks ") i
+  title Distances i = line (ascii "distances ") i
 
   module _ (plane : Plane) (cells : List ℕ) where
     -- component i, where the page has it
@@ -114,6 +125,16 @@ module _ (p : Page) where
   unfoldable pub pageText : List ℕ → List ℕ
   pageText samples = answerLine ++ components Samples samples 4 .0
 
-  -- a refused page has no components, so no marks follow its answer
+  -- a refused page has no components, so neither marks nor distances follow its answer
   unfoldable pub damagedText : List ℕ → List ℕ → List ℕ
   damagedText samples marks = pageText samples ++ components Marks marks 4 .0
+
+  -- the distances, behind either
+  unfoldable pub distancesText : List ℕ → List ℕ
+  distancesText distances = components Distances distances 4 .0
+
+  unfoldable pub placesText : List ℕ → List ℕ → List ℕ
+  placesText samples distances = pageText samples ++ distancesText distances
+
+  unfoldable pub damagedPlacesText : List ℕ → List ℕ → List ℕ → List ℕ
+  damagedPlacesText samples marks distances = damagedText samples marks ++ distancesText distances

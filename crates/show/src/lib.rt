@@ -1,5 +1,8 @@
 // The text of a page, as document 01 says: the answer, then for each component a heading and its rows of samples. Of a page that was read in spite of damage
-// then, in the same way, the marks. The text goes into a lent buffer; what does not fit is left out, so no caller has to reckon first.
+// then, in the same way, the marks, and of one that was read with a plane of distances last the distances. The text goes into a lent buffer; what does not fit is
+// left out, so no caller has to reckon first.
+pub mod modes;
+
 use reader::page::Page;
 ghost use mathlib.Core.List.{[], _∷_};
 ghost use mathlib.Core.Path.{_≡_};
@@ -7,8 +10,8 @@ ghost use Prim.Native.Nat.{_+_, _<_, _≤_};
 ghost use lib.Dec.{leb};
 ghost use lib.ListN.{length, getD};
 ghost use Rattle.io.specs.Counts.{Counts};
-ghost use Rattle.show.specs.Text.{decimal, field, cellsOf, gap, rowText, nextRow, rows, heading, title, component, components, pageText};
-ghost use Rattle.show.specs.Buffer.{Put, Shown, PageText, DamagedText};
+ghost use Rattle.show.specs.Text.{decimal, field, line, cellsOf, gap, rowText, nextRow, rows, heading, title, component, components, pageText, damagedText, distancesText};
+ghost use Rattle.show.specs.Buffer.{Put, Shown, PageText, DamagedText, PlacesText, DamagedPlacesText};
 
 // A byte at `at`, where there is room. Answers the place behind it, as all of these do.
 fn put_byte(out: &mut [u8], at: usize, b: u8) -> usize
@@ -50,10 +53,19 @@ fn put_field(out: &mut [u8], at: usize, name: &[u8], n: u64) -> usize
     put_number(out, end, n)
 }
 
-// What stands in rows, component by component: the samples, or the marks of those that are lost.
+// The same, alone on a line.
+fn put_line(out: &mut [u8], at: usize, name: &[u8], n: u64) -> usize
+    ensures { λ r. ⌜ Put (line (now (name .entry)) n) at (now (out .entry)) r (now (out .exit)) ⌝ }
+{
+    let end = put_field(out, at, name, n);
+    put_byte(out, end, b'\n')
+}
+
+// What stands in rows, component by component: the samples, the marks of those that are lost, or the distance of each.
 enum Plane {
     Samples,
     Marks,
+    Distances,
 }
 
 fn wide(x: u16) -> u64
@@ -68,12 +80,12 @@ fn wide_mark(x: u8) -> u64
     x as u64
 }
 
-// How many cells a plane has. The planes go together through what follows, since a slice is of one type.
+// How many cells a plane has. Words and marks go together through what follows, since a slice is of one type; samples and distances are words.
 fn size_of(plane: Plane, words: &[u16], marks: &[u8]) -> usize
     ensures { λ r. ⌜ r ≡ length (cellsOf plane (now (words .entry)) (now (marks .entry))) ⌝ }
 {
     match plane {
-        Plane::Samples => words.len(),
+        Plane::Samples | Plane::Distances => words.len(),
         Plane::Marks => marks.len(),
     }
 }
@@ -83,17 +95,17 @@ fn cell(plane: Plane, words: &[u16], marks: &[u8], at: usize) -> u64
     ensures { λ r. ⌜ r ≡ getD (cellsOf plane (now (words .entry)) (now (marks .entry))) at 0 ⌝ }
 {
     match plane {
-        Plane::Samples => wide(words[at]),
+        Plane::Samples | Plane::Distances => wide(words[at]),
         Plane::Marks => wide_mark(marks[at]),
     }
 }
 
-// The space before sample x, which the first has not. Marks have none.
+// The space before cell x of a row, which the first has not. Marks have none.
 fn put_gap(out: &mut [u8], at: usize, plane: Plane, x: usize) -> usize
     ensures { λ r. ⌜ Put (gap plane x) at (now (out .entry)) r (now (out .exit)) ⌝ }
 {
     match plane {
-        Plane::Samples => {
+        Plane::Samples | Plane::Distances => {
             if x == 0 {
                 return at;
             }
@@ -204,10 +216,8 @@ fn put_title(out: &mut [u8], at: usize, plane: Plane, page: Page, i: usize) -> u
 {
     match plane {
         Plane::Samples => put_heading(out, at, page, i),
-        Plane::Marks => {
-            let a = put_field(out, at, b"marks ", i as u64);
-            put_byte(out, a, b'\n')
-        }
+        Plane::Marks => put_line(out, at, b"marks ", i as u64),
+        Plane::Distances => put_line(out, at, b"distances ", i as u64),
     }
 }
 
@@ -272,6 +282,23 @@ fn put_page(out: &mut [u8], p: Page, samples: &[u16]) -> usize
     done.at
 }
 
+// Then the marks of each.
+fn put_damaged(out: &mut [u8], p: Page, samples: &[u16], marks: &[u8]) -> usize
+    ensures { λ r. ⌜ Put (damagedText p (now (samples .entry)) (now (marks .entry))) 0 (now (out .entry)) r (now (out .exit)) ⌝ }
+{
+    let a = put_page(out, p, samples);
+    let done = put_components(out, a, Plane::Marks, samples, marks, p);
+    done.at
+}
+
+// The distances of each, behind either.
+fn put_distances(out: &mut [u8], at: usize, p: Page, distances: &[u16]) -> usize
+    ensures { λ r. ⌜ Put (distancesText p (now (distances .entry))) at (now (out .entry)) r (now (out .exit)) ⌝ }
+{
+    let done = put_components(out, at, Plane::Distances, distances, b"", p);
+    done.at
+}
+
 // The text of a page and its samples, as far as there is room. Answers how many bytes that is.
 pub fn page_text(p: Page, samples: &[u16], out: &mut [u8]) -> usize
     ensures { λ r. ⌜ Counts r (now (out .exit)) ⌝ }
@@ -285,7 +312,29 @@ pub fn damaged_text(p: Page, samples: &[u16], marks: &[u8], out: &mut [u8]) -> u
     ensures { λ r. ⌜ Counts r (now (out .exit)) ⌝ }
     ensures { λ r. ⌜ DamagedText p (now (samples .entry)) (now (marks .entry)) (now (out .entry)) r (now (out .exit)) ⌝ }
 {
-    let a = put_page(out, p, samples);
-    let done = put_components(out, a, Plane::Marks, samples, marks, p);
-    done.at
+    put_damaged(out, p, samples, marks)
+}
+
+// The text of a page and its samples, and then the distances of each component.
+pub fn places_text(p: Page, samples: &[u16], distances: &[u16], out: &mut [u8]) -> usize
+    ensures { λ r. ⌜ Counts r (now (out .exit)) ⌝ }
+    ensures { λ r. ⌜ PlacesText p (now (samples .entry)) (now (distances .entry)) (now (out .entry)) r (now (out .exit)) ⌝ }
+{
+    let shown = put_page(out, p, samples);
+    put_distances(out, shown, p, distances)
+}
+
+// All three: samples, marks and distances.
+pub fn damaged_places_text(
+    p: Page,
+    samples: &[u16],
+    marks: &[u8],
+    distances: &[u16],
+    out: &mut [u8],
+) -> usize
+    ensures { λ r. ⌜ Counts r (now (out .exit)) ⌝ }
+    ensures { λ r. ⌜ DamagedPlacesText p (now (samples .entry)) (now (marks .entry)) (now (distances .entry)) (now (out .entry)) r (now (out .exit)) ⌝ }
+{
+    let marked = put_damaged(out, p, samples, marks);
+    put_distances(out, marked, p, distances)
 }

@@ -1,6 +1,6 @@
 -- What an accepted slice leaves: every coefficient of its bands, by the quantiser and the T of its own precinct. It stays so behind steps that keep what other
 -- slices have left; and so an accepted stream leaves every coefficient. Assumes nothing.
-use Prim.Native.Nat.{ℕ, zero, suc, _+_, _-_, _*_, _/_, _%_, _^_, _≤_, _<_}
+use Prim.Native.Nat.{ℕ, zero, suc, _+_, _-_, _*_, _/_, _%_, _≤_, _<_}
 use mathlib.Core.Path.{_≡_, refl, sym, ap, _∙_}
 use mathlib.Core.List.{List}
 use native.Mathlib.Nat.{div-add-mod'}
@@ -13,8 +13,8 @@ use Rattle.whole.specs.Cells.{cell}
 use Rattle.loops.specs.Before.{before}
 use Rattle.loops.proofs.Before.{before-carries}
 use Rattle.rows.specs.declared.Verdict.the-variants.{Fine}
-use Rattle.layout.specs.Bands.{sx, sy, NL, dx, depth, band}
-use Rattle.layout.specs.Precincts.{Cs, Npx, Np, slices, slice-top, first-x, Member}
+use Rattle.layout.specs.Bands.{NL, band}
+use Rattle.layout.specs.Precincts.{Npx, Np, slices, slice-top, first-x, Member, row-with, slice-with, column-with, number-with}
 use Rattle.layout.specs.Cells.{start, cell as place}
 use Rattle.layout.proofs.Cells.{Exists}
 use Rattle.layout.proofs.Cover.{row-of, row-below, column-of, column-below}
@@ -26,14 +26,14 @@ use Rattle.packets.proofs.Lines.{band-below}
 use Rattle.slices.specs.Precinct.{raised}
 use Rattle.slices.specs.Slice.{State, Left, sliceHeaderBytes, rowOf, columnOf, isTop, precinctTurn, slice}
 use Rattle.slices.specs.Stream.{stream}
-use Rattle.slices.specs.Reached.{beforePrecinct, sliceHas, sliceReads, slicePlanes, sliceIndex, beforeSlice, streamHas, streamPlanes, streamIndex}
+use Rattle.slices.specs.Reached.{beforePrecinct, sliceHas, sliceReads, slicePlanes, sliceIndex, beforeSlice}
 use Rattle.slices.proofs.SliceLaws.{row-inside, column-inside, Numbered, numbered}
 use Rattle.slices.proofs.Laws.{FarFrom, precinct-length, slice-length, slice-tops-length, slice-tops-up, slice-other, raised-length}
-use Rattle.slices.proofs.Reaching.{slice-precinct, slice-left, stream-slice, stream-left}
+use Rattle.slices.proofs.Reaching.{slice-precinct, slice-left, stream-slice}
 use Rattle.slices.proofs.PrecinctCoefficients.{countOf, Stored, stored-still, address, precinct-coefficients, precinct-leaves, far-coefficient, far-count}
 
 -- the number of a precinct in its slice is told by its row and column
-same-number : (N n g top : ℕ) → top + n / N ≡ top + g / N → n % N ≡ g % N → n ≡ g
+pub same-number : (N n g top : ℕ) → top + n / N ≡ top + g / N → n % N ≡ g % N → n ≡ g
 same-number N n g top e f =
     let q : n / N ≡ g / N = omega arith in
     sym (div-add-mod' n N) ∙ (λ i. q i * N + f i) ∙ div-add-mod' g N
@@ -136,16 +136,16 @@ module _ (c : Setting) (settled : Settled c) where
 -- in the precinct in this row and column, and so in this slice and with this number there
 module _ (c : Setting) (i β x y : ℕ) where
   abbrev row : ℕ
-  row = y * sy (c .shape) i * 2 ^ depth (c .shape) β i / 2 ^ c .shape .nly
+  row = row-with (c .shape) β i y
 
   abbrev column : ℕ
-  column = x * sx (c .shape) i * 2 ^ dx (c .shape) β / Cs (c .shape)
+  column = column-with (c .shape) β i x
 
   abbrev pub ownSlice : ℕ
-  ownSlice = row / c .shape .hsl
+  ownSlice = slice-with (c .shape) β i y
 
   abbrev pub ownNumber : ℕ
-  ownNumber = (row - slice-top (c .shape) ownSlice) * Npx (c .shape) + column
+  ownNumber = number-with (c .shape) β i x y
 
 module _ (s : List ℕ) (c : Setting) (settled : Settled c) {i β x y : ℕ} (h : i < c .shape .nc) (e : Exists (c .shape) i β x y) where
   pub number-is : Numbered (c .shape) (row c i β x y) (column c i β x y) (ownSlice c i β x y) (ownNumber c i β x y)

@@ -25,7 +25,7 @@ use Rattle.slices.proofs.PrecinctLaws.{clash}
 
 -- ---- what stops is refused
 
-stop-refuses : {S X : Type 0} {k : Check} {z : X} {r : Verdict × X} → _≡_ {A = Turn S (Verdict × X)} (stop (Refused k, z)) (stop r) → r .0 ≡ Fine → ⊥
+pub stop-refuses : {S X : Type 0} {k : Check} {z : X} {r : Verdict × X} → _≡_ {A = Turn S (Verdict × X)} (stop (Refused k, z)) (stop r) → r .0 ≡ Fine → ⊥
 stop-refuses {X = X} {k} {z} {r} e f =
     let q : _≡_ {A = Verdict × X} (Refused k, z) r = cc in
     clash (ap (λ (y : Verdict × X). y .0) q ∙ f)

@@ -69,25 +69,25 @@ numbered s built {row} {column} h k =
       across = sym (mul-add-mod-self-right r (Npx s) column ∙ mod-eq-of-lt k);
     }
 
--- the precinct that is read for turn n of slice t, where `columns` is the number of precincts in a row
-module _ (s : List ℕ) (c : Setting) (t n at : ℕ) {columns : ℕ} {p : Precinct} (e : columns ≡ Npx (c .shape)) (x : IsPrecinct s c (slice-top (c .shape) t + n / columns) (n % columns) at p) where
-  pub placed-in : Settled c → t < slices (c .shape) → n < Np (c .shape) t → Placed c p (topRow (c .shape) t (slice-top (c .shape) t + n / columns))
+-- precinct n of slice t, where `columns` is the number of precincts in a row
+pub seen : (s : List ℕ) (c : Setting) (t n at : ℕ) {columns : ℕ} {p : Precinct} → columns ≡ Npx (c .shape)
+    → IsPrecinct s c (slice-top (c .shape) t + n / columns) (n % columns) at p → IsPrecinct s c (rowOf s c t n) (columnOf s c t n) at p
+seen s c t n at e x = rw (← e) x
+
+-- what is asked of it, and what it leaves
+module _ (s : List ℕ) (c : Setting) (t n at : ℕ) {p : Precinct} (x : IsPrecinct s c (rowOf s c t n) (columnOf s c t n) at p) where
+  pub placed-in : Settled c → t < slices (c .shape) → n < Np (c .shape) t → Placed c p (topRow (c .shape) t (p .row))
   placed-in settled h k =
-      let q : n / columns ≡ n / Npx (c .shape) = λ i. n / e i in
-      let r : n % columns ≡ n % Npx (c .shape) = λ i. n % e i in
       record {
-        row = omega (arith, row-is x, q, row-inside (c .shape) (settled .shape) t h n k .0);
-        column = omega (arith, column-is x, r, column-inside (c .shape) (settled .shape) t h n k);
+        row = omega (arith, row-is x, row-inside (c .shape) (settled .shape) t h n k .0);
+        column = omega (arith, column-is x, column-inside (c .shape) (settled .shape) t h n k);
         later = λ z. omega (arith, row-is x, eqb-false);
       }
 
-  pub seen : IsPrecinct s c (rowOf s c t n) (columnOf s c t n) at p
-  seen = rw (← e) x
-
-  pub seen-precinct : {v : Verdict} (cells : List ℤ) {cells′ : List ℤ} → precinct s c (p .row) (p .column) (p .at) (topRow (c .shape) t (slice-top (c .shape) t + n / columns)) cells ≡ (v, cells′)
+  pub seen-precinct : {v : Verdict} (cells : List ℤ) {cells′ : List ℤ} → precinct s c (p .row) (p .column) (p .at) (topRow (c .shape) t (p .row)) cells ≡ (v, cells′)
       → precinct s c (rowOf s c t n) (columnOf s c t n) at (isTop s c t n) cells ≡ (v, cells′)
   seen-precinct cells f =
-      (λ i. precinct s c (sym (seen .is) i .row) (sym (seen .is) i .column) (sym (seen .is) i .at) (topRow (c .shape) t (slice-top (c .shape) t + n / sym e i)) cells) ∙ f
+      (λ i. precinct s c (sym (x .is) i .row) (sym (x .is) i .column) (sym (x .is) i .at) (topRow (c .shape) t (sym (x .is) i .row)) cells) ∙ f
 
 -- ---- the turn of a precinct
 

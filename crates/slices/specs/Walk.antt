@@ -17,8 +17,10 @@ use Rattle.bits.specs.Fields.{fieldAt}
 use Rattle.layout.specs.Precincts.{Np, slices}
 use Rattle.layout.specs.Headers.{header-bytes}
 use Rattle.packets.specs.declared.Setting.{Setting}
+use Rattle.packets.specs.declared.Precinct.{Precinct}
 use Rattle.slices.specs.declared.walk.Walked.{Walked}
-use Rattle.slices.specs.Slice.{sliceHeaderBytes, sliceChecks}
+use Rattle.slices.specs.Precinct.{precinctAt}
+use Rattle.slices.specs.Slice.{sliceHeaderBytes, sliceChecks, rowOf, columnOf}
 use Rattle.slices.specs.Stream.{endChecks}
 
 -- a step goes on to a place, or refuses where it stands
@@ -72,6 +74,10 @@ module _ (s : List ℕ) (c : Setting) where
   -- and to precinct n of a slice, whose header stands at a place
   abbrev pub precinctPlace : ℕ → ℕ → ℕ
   precinctPlace at n = before walkTurn (at + sliceHeaderBytes) n
+
+  -- precinct n of slice t, as the walk finds it
+  abbrev pub walkHas : ℕ → ℕ → ℕ → Precinct
+  walkHas at t n = precinctAt s c (rowOf s c t n) (columnOf s c t n) (precinctPlace (slicePlace at t) n)
 
   -- the checks as one table, in the order in which the walk comes to them
   unfoldable pub walkSliceTable : ℕ → ℕ → List Check

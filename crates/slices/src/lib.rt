@@ -1,9 +1,8 @@
 // Slices and their precincts, the walk by declared lengths, and the end marker. The loop over the slices stands in `damage`.
-mod precincts;
+pub mod precincts;
 mod tops;
 pub mod walk;
 
-use layout::precincts::precinct_columns;
 use layout::precincts::precincts_in_slice;
 use packets::Precinct;
 use packets::Setting;
@@ -104,12 +103,9 @@ fn precinct_turn(
     ensures { λ r. ⌜ Turned (now (s .entry)) (precinctTurn (now (s .entry)) c t n (at, tops, now (cells .entry))) r (now (cells .exit)) ⌝ }
 {
     let shape = c.shape;
-    let columns = precinct_columns(shape);
-    let down = n / columns;
     let top = t * shape.hsl;
-    let row = top + down;
-    let p = precincts::precinct_at(s, c, row, n % columns, at);
-    let v = precincts::precinct(s, cells, c, p, row == top);
+    let p = precincts::precinct_in(s, c, t, n, at);
+    let v = precincts::precinct(s, cells, c, p, p.row == top);
     behind(v, c, p, at, tops)
 }
 

@@ -3,6 +3,7 @@ use layout::headers::band_count;
 use layout::headers::band_exists;
 use layout::headers::bytes_of_header;
 use layout::lines::slot_count;
+use layout::precincts::precinct_columns;
 use packets::Precinct;
 use packets::Setting;
 use packets::passes::any_line;
@@ -24,9 +25,11 @@ ghost use Rattle.rows.specs.declared.Verdict.the-variants.{Fine};
 ghost use Rattle.rows.specs.declared.Row.the-variants.{Mode, Length};
 ghost use Rattle.rows.specs.declared.Field.the-variants.{D as ModeField, Rest};
 ghost use Rattle.layout.specs.Bands.{NL};
+ghost use Rattle.layout.specs.Precincts.{Np, slices};
 ghost use Rattle.layout.specs.Slots.{slots};
 ghost use Rattle.packets.specs.Ready.{Settled, Standing};
 ghost use Rattle.slices.specs.Precinct.{fieldChecks, modeChecks, headerChecks, packets, packetsBy, precinct};
+ghost use Rattle.slices.specs.Slice.{rowOf, columnOf};
 ghost use Rattle.slices.specs.Steps.{Lent, Placed, IsPrecinct, Passed};
 
 // What a slot of a precinct leaves beside the cells: the verdict, the next place, and the raw flags of the slots so far.
@@ -37,7 +40,7 @@ struct Flags {
 }
 
 // The precinct in this row and column whose header stands at `at`, whether it is accepted or not.
-pub fn precinct_at(s: &[u8], c: Setting, row: usize, column: usize, at: usize) -> Precinct
+fn precinct_at(s: &[u8], c: Setting, row: usize, column: usize, at: usize) -> Precinct
     requires { ⌜ Settled c × (length (now s) < 2 ^ 32) × (at ≤ length (now s)) ⌝ }
     ensures { λ r. ⌜ IsPrecinct (now (s .entry)) c row column at r ⌝ }
 {
@@ -51,6 +54,18 @@ pub fn precinct_at(s: &[u8], c: Setting, row: usize, column: usize, at: usize) -
         q: bits::u8_at(s, at + 3),
         r: bits::u8_at(s, at + 4),
     }
+}
+
+// Precinct n of slice t, whose header stands at `at`.
+pub fn precinct_in(s: &[u8], c: Setting, t: usize, n: usize, at: usize) -> Precinct
+    requires { ⌜ Settled c × (length (now s) < 2 ^ 32) × (at ≤ length (now s)) × (t < slices (c .shape)) × (n < Np (c .shape) t) ⌝ }
+    ensures { λ r. ⌜ IsPrecinct (now (s .entry)) c (rowOf (now (s .entry)) c t n) (columnOf (now (s .entry)) c t n) at r ⌝ }
+{
+    let shape = c.shape;
+    let columns = precinct_columns(shape);
+    let down = n / columns;
+    let row = t * shape.hsl + down;
+    precinct_at(s, c, row, n % columns, at)
 }
 
 // Lprc, Q and R.

@@ -1,9 +1,15 @@
-// Reads the stream NAME.jxs of each name that is given, and compares the page's text with NAME.txt, byte by byte, and where NAME.caption is there, what the
-// record says of a caption with that. Names behind the word --damaged are of damaged pages: their text has the marks too. Prints the names of those that differ,
-// how many agreed, and how many had a caption's yes or no stored.
+// Reads the stream NAME.jxs of each name that is given, and compares the page's text with the stored one, byte by byte, and where NAME.caption is there, what the
+// record says of a caption with that. A word before names says how they are read, until the next such word:
+//   --damaged         in spite of damage: the text has the marks too
+//   --places          with a distance for each sample: the text has the distances too
+//   --damaged-places  both
+// Stored is NAME.txt, and for --damaged-places NAME.damaged.txt, since a stream of --places has its answer beside it. Prints the names of those that differ, how
+// many agreed, and how many had a caption's yes or no stored.
 use libc::STDOUT_FILENO;
-ghost use mathlib.Core.Path.{_≡_};
-ghost use Prim.Native.Nat.{_+_, _≤_};
+use show::modes::Mode;
+use show::modes::Told;
+use show::modes::text_of;
+ghost use Prim.Native.Nat.{_<_, _≤_};
 ghost use Rattle.io.specs.Counts.{Counts};
 
 fn text(bytes: &[u8]) {
@@ -39,49 +45,40 @@ fn read_file(name: &[u8], ending: &[u8], needed: bool, to: &mut [u8]) -> usize
     size
 }
 
-// What is said of a stream: how many bytes the page's text has, and the record's yes or no.
-struct Said {
-    size: usize,
-    caption: bool,
+// What a word is: that of a mode, or a stream's name.
+enum Word {
+    Mode(Mode),
+    Name,
 }
 
-fn plain_page(stream: &[u8], out: &mut [u8]) -> Said
-    ensures { λ r. ⌜ Counts (r .size) (now (out .exit)) ⌝ }
+fn word_is(word: &[u8]) -> Word {
+    if check::same(word, b"--damaged") {
+        return Word::Mode(Mode::Damaged);
+    }
+    if check::same(word, b"--places") {
+        return Word::Mode(Mode::Places);
+    }
+    if check::same(word, b"--damaged-places") {
+        return Word::Mode(Mode::DamagedPlaces);
+    }
+    Word::Name
+}
+
+fn read_stored(mode: Mode, name: &[u8], to: &mut [u8]) -> usize
+    ensures { λ r. ⌜ Counts r (now (to .exit)) ⌝ }
 {
-    let mut samples = [0u16; 2048];
-    let mut work = [0i64; 4096];
-    let page = reader::read(stream, &mut samples, &mut work);
-    let caption = page.caption;
-    Said {
-        size: show::page_text(page, &samples, out),
-        caption,
+    match mode {
+        Mode::Plain | Mode::Damaged | Mode::Places => read_file(name, b".txt", true, to),
+        Mode::DamagedPlaces => read_file(name, b".damaged.txt", true, to),
     }
 }
 
-fn damaged_page(stream: &[u8], out: &mut [u8]) -> Said
-    ensures { λ r. ⌜ Counts (r .size) (now (out .exit)) ⌝ }
-{
-    let mut samples = [0u16; 2048];
-    let mut work = [0i64; 4096];
-    let mut marks = [0u8; 2048];
-    let page = reader::read_damaged(stream, &mut samples, &mut work, &mut marks);
-    let caption = page.caption;
-    Said {
-        size: show::damaged_text(page, &samples, &marks, out),
-        caption,
-    }
-}
-
-fn page_of(name: &[u8], damaged: bool, out: &mut [u8]) -> Said
+fn page_of(mode: Mode, name: &[u8], out: &mut [u8]) -> Told
     ensures { λ r. ⌜ Counts (r .size) (now (out .exit)) ⌝ }
 {
     let mut stream = io::large_buffer();
     let n = read_file(name, b".jxs", true, &mut stream);
-    if damaged {
-        damaged_page(&stream[..n], out)
-    } else {
-        plain_page(&stream[..n], out)
-    }
+    text_of(mode, &stream[..n], out)
 }
 
 // How many bytes stand before the first line's end.
@@ -129,53 +126,70 @@ fn compared_caption(name: &[u8], caption: bool, stored: &[u8]) -> bool {
     }
 }
 
-// Of one word: 1 where it is the word --damaged. Of one stream: 1 where what is said of it is what is stored, and 1 where a caption's yes or no is.
+// Of one stream: 1 where what is said of it is what is stored, and 1 where a caption's yes or no is.
 struct Outcome {
-    switched: usize,
     agreed: usize,
     told: usize,
 }
 
-fn outcome_of(name: &[u8], damaged: bool) -> Outcome
-    ensures { λ r. ⌜ (r .switched ≡ 0) × (r .agreed ≤ 1) × (r .told ≤ 1) ⌝ }
+fn outcome_of(mode: Mode, name: &[u8]) -> Outcome
+    ensures { λ r. ⌜ (r .agreed ≤ 1) × (r .told ≤ 1) ⌝ }
 {
     let mut page = io::large_buffer();
-    let said = page_of(name, damaged, &mut page);
+    let said = page_of(mode, name, &mut page);
     let size = said.size;
     let mut stored = io::large_buffer();
-    let wanted = read_file(name, b".txt", true, &mut stored);
+    let wanted = read_stored(mode, name, &mut stored);
     let same = compared(name, &page[..size], &stored[..wanted]);
     let mut line = io::buffer();
     let told = read_file(name, b".caption", false, &mut line);
     if told == 0 {
         return Outcome {
-            switched: 0,
             agreed: one_if(same),
             told: 0,
         };
     }
     let yes = compared_caption(name, said.caption, &line[..told]);
     Outcome {
-        switched: 0,
         agreed: one_if(same & yes),
         told: 1,
     }
 }
 
-fn word_of(i: usize, damaged: bool) -> Outcome
-    ensures { λ r. ⌜ r .switched + r .agreed ≤ 1 ⌝ }
-    ensures { λ r. ⌜ r .told ≤ 1 ⌝ }
+// The mode that the words have come to, and of the streams before how many there were, how many agreed, and of how many a caption's yes or no was stored.
+struct Tally {
+    mode: Mode,
+    streams: usize,
+    agreed: usize,
+    told: usize,
+}
+
+// And word i.
+fn with_word(t: Tally, i: usize) -> Tally
+    requires { ⌜ (t .agreed ≤ t .streams) × (t .told ≤ t .streams) × (t .streams < i) ⌝ }
+    ensures { λ r. ⌜ (r .agreed ≤ r .streams) × (r .told ≤ r .streams) × (r .streams ≤ i) ⌝ }
 {
     let mut word = io::buffer();
     let n = os::arg(i, &mut word);
-    if check::same(&word[..n], b"--damaged") {
-        return Outcome {
-            switched: 1,
-            agreed: 0,
-            told: 0,
-        };
+    let mode = t.mode;
+    let kind = word_is(&word[..n]);
+    match kind {
+        Word::Mode(m) => Tally {
+            mode: m,
+            streams: t.streams,
+            agreed: t.agreed,
+            told: t.told,
+        },
+        Word::Name => {
+            let o = outcome_of(mode, &word[..n]);
+            Tally {
+                mode,
+                streams: t.streams + 1,
+                agreed: t.agreed + o.agreed,
+                told: t.told + o.told,
+            }
+        }
     }
-    outcome_of(&word[..n], damaged)
 }
 
 fn one_if(b: bool) -> usize
@@ -195,16 +209,16 @@ fn print_tally(agreed: usize, differing: usize, told: usize) {
 
 fn main() {
     let count = os::arg_count();
-    let mut switches = 0;
-    let mut all = 0;
-    let mut told = 0;
+    let mut t = Tally {
+        mode: Mode::Plain,
+        streams: 0,
+        agreed: 0,
+        told: 0,
+    };
     let mut i = 1;
     while i < count {
-        let o = word_of(i, 0 < switches);
-        switches += o.switched;
-        all += o.agreed;
-        told += o.told;
+        t = with_word(t, i);
         i += 1;
     }
-    print_tally(all, i - 1 - switches - all, told);
+    print_tally(t.agreed, t.streams - t.agreed, t.told);
 }

@@ -10,11 +10,11 @@ use lib.Dec.{lit≤}
 use lib.Pow.{pow-pos}
 use lib.IntN.{ℤ, natAbs}
 use lib.ListN.{length}
-use Rattle.whole.specs.Cells.{cell}
+use Rattle.whole.specs.Cells.{cell, OntoLine}
 use Rattle.wavelet.specs.Filter.{Steps, filter}
 use Rattle.wavelet.specs.Transform.{Band, low-size, down, table-E1, inverse}
 use Rattle.wavelet.specs.Places.{sample-at, place, Component, TransformedBy}
-use Rattle.wavelet.specs.Lines.{line, OntoLine, Line}
+use Rattle.wavelet.specs.Lines.{line, Line}
 use Rattle.wavelet.specs.Grids.{Gridded, Pass, Row, SamplesWithin, RowLevels, AcrossLevels, BothLevels, row-turn, both-turn, level-band}
 use Rattle.wavelet.proofs.Halves.{below-size, size-above}
 use Rattle.wavelet.proofs.Tame.{Tame, thrice}

@@ -8,13 +8,13 @@ use borrow.Author.Tests.{lt-ltb, le-ltb}
 use lib.Dec.{lit≤}
 use lib.IntN.{ℤ, natAbs}
 use lib.ListN.{length}
-use Rattle.whole.specs.Cells.{cell}
+use Rattle.whole.specs.Cells.{cell, Onto, OntoLine}
 use Rattle.wavelet.specs.Filter.{Steps, filter}
-use Rattle.wavelet.specs.Lines.{Onto, line, OntoLine, Line, OntoGrid, Grid, GridWithin, across-cell, level-cell}
+use Rattle.wavelet.specs.Lines.{line, Line, OntoGrid, Grid, GridWithin, across-cell, level-cell}
 use Rattle.wavelet.specs.Runs.{right, Liftable, lifted, Pairable, pair-cell, staged, Levelled, Midway, Onward}
 use Rattle.wavelet.proofs.Related.{filter-cong}
 use Rattle.wavelet.proofs.Tame.{Tame, thrice, filter-even-size}
-use Rattle.wavelet.proofs.Filling.{onto-none, onto-turn}
+use Rattle.whole.proofs.Filling.{onto-none, onto-turn}
 use Rattle.wavelet.proofs.Running.{first-filter, pair-filter, last-filter, pair-small}
 
 -- a run along one row, and one along some rows

@@ -10,12 +10,12 @@ use borrow.Author.Tests.{eq-eqb, ne-eqb}
 use lib.IntN.{ℤ}
 use lib.Pow.{pow-pos}
 use Rattle.whole.specs.Numbers.{ceilDiv}
-use Rattle.whole.specs.Cells.{cell}
+use Rattle.whole.specs.Cells.{cell, OntoLine}
 use Rattle.wavelet.specs.Filter.{Steps, filter}
 use Rattle.wavelet.specs.Transform.{Kind, HL, LH, HH, Band, woven, hor-transform, ver-transform, low-size}
 use Rattle.wavelet.specs.Bands.{τx, τy}
 use Rattle.wavelet.specs.Places.{sample-at, bands, place}
-use Rattle.wavelet.specs.Lines.{line, OntoLine}
+use Rattle.wavelet.specs.Lines.{line}
 use Rattle.wavelet.specs.Grids.{Gridded, level-band, row-turn}
 use Rattle.wavelet.proofs.Halves.{below-size, size-above}
 use Rattle.wavelet.proofs.Related.{filter-cong}

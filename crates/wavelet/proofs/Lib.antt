@@ -7,7 +7,6 @@ pub mod Transforms
 pub mod Components
 pub mod Tame
 pub mod Sizes
-pub mod Filling
 pub mod Lifting
 pub mod Pairs
 pub mod Running

@@ -6,11 +6,10 @@ use native.Mathlib.Nat.{add-zero}
 use native.Mathlib.Omega.{arith}
 use lib.IntN.{ℤ}
 use lib.ListN.{length, set}
-use Rattle.whole.specs.Cells.{cell}
+use Rattle.whole.specs.Cells.{cell, OntoLine}
 use Rattle.wavelet.specs.Filter.{Steps}
-use Rattle.wavelet.specs.Lines.{OntoLine}
 use Rattle.wavelet.specs.Runs.{step, Small, Liftable, lifted}
-use Rattle.wavelet.proofs.Filling.{line-left, line-next, store-onto}
+use Rattle.whole.proofs.Filling.{line-left, line-next, store-onto}
 
 module _ (S : Steps ℤ) (b : ℕ) {s n c l r j : ℕ} {cells x : List ℤ} (L : Liftable s n c l r cells) (p : OntoLine c s j (lifted S b s c l r cells) cells x) (h : j < n) where
   centre : cell x (c + j * s) ≡ cell cells (c + j * s)

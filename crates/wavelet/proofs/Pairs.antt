@@ -9,12 +9,12 @@ use lib.Dec.{eqb, lit≤}
 use lib.IntN.{ℤ, pos}
 use lib.ListN.{length, set, length-set}
 use lib.Seq.{getD-set-same, getD-set-other}
-use Rattle.whole.specs.Cells.{cell}
+use Rattle.whole.specs.Cells.{cell, Onto, OntoLine}
 use Rattle.wavelet.specs.Filter.{Steps}
-use Rattle.wavelet.specs.Lines.{Onto, line, OntoLine}
+use Rattle.wavelet.specs.Lines.{line}
 use Rattle.wavelet.specs.Runs.{Small, SmallPair, paired, Pairable, pair-cell}
 use Rattle.wavelet.proofs.Tame.{Tame, even-size}
-use Rattle.wavelet.proofs.Filling.{onto-turn}
+use Rattle.whole.proofs.Filling.{onto-turn}
 
 pub pair-onto : (l : List ℤ) (h t : ℕ) (odd even : ℤ) → 0 < t → h + t < length l → OntoLine h t 2 (λ b. cond (eqb b 0) odd even) l (set (set l h odd) (h + t) even)
 pair-onto l h t odd even up inside = record {

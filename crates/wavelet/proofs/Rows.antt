@@ -10,16 +10,16 @@ use lib.Arith.{digits-lt}
 use lib.Pow.{pow-pos}
 use lib.IntN.{ℤ, natAbs}
 use lib.ListN.{length}
-use Rattle.whole.specs.Cells.{cell}
+use Rattle.whole.specs.Cells.{cell, Onto}
 use Rattle.wavelet.specs.Filter.{Steps, filter}
 use Rattle.wavelet.specs.Transform.{LL, Band, low-size, woven, hor-transform, down}
 use Rattle.wavelet.specs.Places.{sample-at, place, bands, Component}
-use Rattle.wavelet.specs.Lines.{Onto, line}
+use Rattle.wavelet.specs.Lines.{line}
 use Rattle.wavelet.specs.Grids.{Row, SamplesWithin, RowLevels, AcrossLevels, across-turn, row-turn, row-low}
 use Rattle.wavelet.proofs.Halves.{low-half, below-size, size-above, low-inside, high-inside}
 use Rattle.wavelet.proofs.Related.{equal, woven-keeps}
 use Rattle.wavelet.proofs.Transforms.{down-keeps}
-use Rattle.wavelet.proofs.Filling.{onto-none, onto-turn}
+use Rattle.whole.proofs.Filling.{onto-none, onto-turn}
 use Rattle.wavelet.proofs.Levels.{low-place}
 use Rattle.wavelet.proofs.Passes.{one-place, row-start, samples-le}
 

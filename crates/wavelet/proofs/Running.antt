@@ -8,14 +8,14 @@ use native.Mathlib.Omega.{arith}
 use lib.Dec.{lit≤}
 use lib.IntN.{ℤ, natAbs}
 use lib.ListN.{length, set}
-use Rattle.whole.specs.Cells.{cell}
+use Rattle.whole.specs.Cells.{cell, Onto, OntoLine}
 use Rattle.whole.specs.Numbers.{gap}
 use Rattle.wavelet.specs.Filter.{Steps, filter}
-use Rattle.wavelet.specs.Lines.{Onto, line, OntoLine, Line}
+use Rattle.wavelet.specs.Lines.{line, Line}
 use Rattle.wavelet.specs.Runs.{right, Small, SmallPair, paired}
 use Rattle.wavelet.proofs.Borders.{filter-even, filter-odd}
 use Rattle.wavelet.proofs.Tame.{Tame, filter-even-size}
-use Rattle.wavelet.proofs.Filling.{line-left, line-next, store-onto, onto-none}
+use Rattle.whole.proofs.Filling.{line-left, line-next, store-onto, onto-none}
 
 pub first-filter : (S : Steps ℤ) (n : ℕ) → 2 ≤ n → (X : ℕ → ℤ) → S .even (X 0) (X 1) (X 1) ≡ filter S n X 0
 first-filter S n two X = sym (filter-even S n two X 0 (omega arith) refl ∙ ap (S .even (X 0) (X 1)) (ap X (omega arith)))

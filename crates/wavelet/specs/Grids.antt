@@ -4,11 +4,11 @@ use mathlib.Core.List.{List}
 use Prim.Native.Nat.{ℕ, _+_, _*_, _-_, _^_, _≤_, _<_}
 use lib.IntN.{ℤ, natAbs}
 use lib.ListN.{length}
-use Rattle.whole.specs.Cells.{cell}
+use Rattle.whole.specs.Cells.{cell, OntoLine}
 use Rattle.wavelet.specs.Filter.{Steps, filter}
 use Rattle.wavelet.specs.Transform.{Band, LL, low-size, woven, hor-transform, ver-transform, down, across, both}
 use Rattle.wavelet.specs.Places.{sample-at, place, bands, Sheet}
-use Rattle.wavelet.specs.Lines.{line, OntoLine}
+use Rattle.wavelet.specs.Lines.{line}
 
 -- l′ is l with the band g on the grid, and with no other sample changed
 pub record Gridded (w h s t : ℕ) (g : Band ℤ) (l l′ : List ℤ) : Type 0 where

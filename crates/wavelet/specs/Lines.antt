@@ -4,23 +4,14 @@ use mathlib.Core.List.{List}
 use Prim.Native.Nat.{ℕ, _+_, _*_, _≤_, _<_}
 use lib.IntN.{ℤ, natAbs}
 use lib.ListN.{length}
-use Rattle.whole.specs.Cells.{cell}
+use Rattle.whole.specs.Cells.{cell, Onto}
 use Rattle.wavelet.specs.Filter.{Steps, filter}
-
--- l′ is l with g on some cells, of which the i-th stands at `at i`, and with no other cell changed
-pub record Onto {I : Type 0} (at : I → ℕ) (In : I → Type 0) (g : I → ℤ) (l l′ : List ℤ) : Type 0 where
-  pub same : length l′ ≡ length l
-  pub on : (i : I) → In i → cell l′ (at i) ≡ g i
-  pub off : (j : ℕ) → ((i : I) → In i → j ≡ at i → ⊥) → cell l′ j ≡ cell l j
 
 -- ---- a line: n cells from `base` on, `stride` apart
 
 -- its k-th cell
 abbrev pub line : ℕ → ℕ → List ℤ → ℕ → ℤ
 line base stride l k = cell l (base + k * stride)
-
-abbrev pub OntoLine : ℕ → ℕ → ℕ → (ℕ → ℤ) → List ℤ → List ℤ → Type 0
-OntoLine base stride n = Onto {I = ℕ} (λ k. base + k * stride) (λ k. k < n)
 
 -- at least 2 cells, all in the slice, and each of at most B in size
 pub record Line (base stride n B : ℕ) (cells : List ℤ) : Type 0 where

@@ -9,7 +9,8 @@ use lib.IntN.{ℤ, natAbs}
 use lib.ListN.{length}
 use Rattle.whole.specs.Numbers.{gap}
 use Rattle.wavelet.specs.Filter.{Steps}
-use Rattle.wavelet.specs.Lines.{Onto, line, Grid, GridWithin, across-cell, level-cell}
+use Rattle.whole.specs.Cells.{Onto}
+use Rattle.wavelet.specs.Lines.{line, Grid, GridWithin, across-cell, level-cell}
 
 -- the sample right of i, mirrored at the line's end; the sample left of i stands at gap i 1
 abbrev pub right : ℕ → ℕ → ℕ

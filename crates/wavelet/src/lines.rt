@@ -5,10 +5,10 @@ ghost use Prim.Native.Nat.{_+_, _*_, _-_, _%_, _^_, _<_, _≤_};
 ghost use lib.IntN.{_+ℤ_};
 ghost use lib.ListN.{length, set};
 ghost use lib.Signed.{shrZ};
-ghost use Rattle.whole.specs.Cells.{cell};
+ghost use Rattle.whole.specs.Cells.{cell, Onto, OntoLine};
 ghost use Rattle.wavelet.specs.Filter.{filter};
 ghost use Rattle.wavelet.specs.Kinds.{stepsOf};
-ghost use Rattle.wavelet.specs.Lines.{Onto, line, OntoLine, Line, OntoGrid, Grid, GridWithin, level-cell};
+ghost use Rattle.wavelet.specs.Lines.{line, Line, OntoGrid, Grid, GridWithin, level-cell};
 ghost use Rattle.wavelet.specs.Runs.{step, Summable, Small, Liftable, lifted, SmallPair, paired, Pairable, pair-cell, Levelled, Midway, Onward};
 
 // What the neighbours give in Table E.6, at an even place and at an odd one: a quarter, or a half, of their sum and of a number that says how it is rounded. The shift

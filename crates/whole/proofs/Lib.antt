@@ -5,3 +5,4 @@ pub mod Within
 pub mod Passes
 pub mod Lists
 pub mod Same
+pub mod Filling

@@ -1,15 +1,15 @@
 -- `planes::cell_marks` meets its contract. The invariant: the first x marks are written, the others are as they were. Assumes nothing.
-use mathlib.Core.Path.{_≡_, sym, ap, ap₂, _∙_}
+use mathlib.Core.Path.{_≡_, sym, ap, _∙_}
 use mathlib.Core.List.{List}
 use Prim.Native.Nat.{ℕ, _-_, _≤_}
-use native.Mathlib.Numerals.{add-one}
 use native.Mathlib.Omega.{arith}
 use lib.IntN.{ℤ, pos}
-use lib.ListN.{length, set}
+use lib.ListN.{length}
 use borrow.Author.Needs.{needs}
 use Rattle.whole.specs.Cells.{cell}
 use Rattle.whole.proofs.Machine.{back64}
-use Rattle.whole.proofs.Passes.{mapped, mapped-none, mapped-length, mapped-step, mapped-all, mapAt-from}
+use Rattle.whole.proofs.Passes.{mapped, mapped-none, mapped-length, mapped-all, mapAt-from}
+use Rattle.output.proofs.Laws.{pass-goes}
 use Rattle.planes.specs.Marks.{cellMark}
 use Rattle.planes.proofs.cell_marks.Statement.{statement}
 use Rattle.planes.proofs.cell_marks.Tie as tie
@@ -39,12 +39,10 @@ loop-again : tie.Need-loop-again Inv-loop μ-loop
 loop-again c =
     let t = c .before .before .before in
     let a = t .before .before .args in
-    let x : ℕ = t .loop .x in
-    let g : ℕ → ℕ → ℕ = marks (a .work .now) in
-    let gave : c .mark-of .result ≡ g x 0 = c .mark-of .ensures ∙ ap cellMark (back64 (cell (a .work .now) x) (c .before .mark-of-arg .given)) in (
+    let x : ℕ = t .loop .x in (
       omega arith,
-      ap₂ (λ (l : List ℕ) (z : ℕ). set l x z) (t .loop .inv .1) gave ∙ mapped-step g x (a .out .now) 0 (omega arith)
-          ∙ ap (λ (n : ℕ). mapped g n (a .out .now)) (sym (add-one x)),
+      pass-goes (marks (a .work .now)) x (a .out .now) 0 (t .loop .inv .1)
+          (c .mark-of .ensures ∙ ap cellMark (back64 (cell (a .work .now) x) (c .before .mark-of-arg .given))) (omega arith),
     )
 
 same-length : tie.Need-same-length Inv-loop μ-loop

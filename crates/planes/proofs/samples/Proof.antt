@@ -1,63 +1,17 @@
--- `planes::samples` meets its contract. The invariant: the samples of the first i components are written. Assumes nothing.
-use mathlib.Core.Path.{sym, _∙_}
-use Prim.Native.Nat.{ℕ, _-_, _≤_}
-use native.Mathlib.Omega.{arith}
-use lib.ListN.{getD}
+-- `planes::samples` is Annex G of kind 0, samples. Assumes nothing.
+use mathlib.Core.Path.{refl}
+use borrow.Author.Needs.{needs}
+use Rattle.output.specs.Linear.{outputOf}
 use Rattle.planes.specs.Values.{sampled}
-use Rattle.planes.specs.Places.{valuesIn}
-use Rattle.planes.proofs.Stretches.{ready-one}
-use Rattle.planes.proofs.Planes.{Written, written-none, written-more, written-all}
 use Rattle.planes.proofs.samples.Statement.{statement}
 use Rattle.planes.proofs.samples.Tie as tie
 
-abbrev Inv-loop : tie.InvT-loop
-Inv-loop work out₀ s bw depth n i₀ out i = (i ≤ s .nc) × Written s (sampled bw (λ (k : ℕ). getD depth k 0) (valuesIn s work)) i out
+all-outputs-requires : tie.Need-all-outputs-requires
+all-outputs-requires c κs = let s = c .before .before in (s .pre .0, λ n. absurd (n refl), s .pre .1, s .pre .2)
 
-abbrev μ-loop : tie.MeasureT-loop
-μ-loop work out₀ s bw depth n i₀ out i = n - i
-
-loop-holds : tie.Need-loop-holds Inv-loop μ-loop
-loop-holds c = (omega arith, written-none (c .before .pre .2))
-
-mul-component-samples : tie.Need-mul-component-samples Inv-loop μ-loop
-mul-component-samples c = omega (arith, c .before .before .before .before .pre .0 .built .few, c .before .loop-test .taken)
-
-array-read-component-samples : tie.Need-array-read-component-samples Inv-loop μ-loop
-array-read-component-samples c = omega (arith, c .before .before .before .before .pre .0 .built .few, c .before .loop-test .taken)
-
-component-samples-requires : tie.Need-component-samples-requires Inv-loop μ-loop
-component-samples-requires c κs =
-    let s = c .before .before .before .before in
-    let h = c .before .loop-test .taken in
-    (ready-one (s .pre .0) h, s .pre .1 _ h, c .before .before .loop .inv .1 .long)
-
-loop-less : tie.Need-loop-less Inv-loop μ-loop
-loop-less c = omega (arith, c .before .before .before .before .loop-test .taken)
-
-loop-again : tie.Need-loop-again Inv-loop μ-loop
-unfolding sampled
-loop-again c =
-    let t = c .before .before .before .before in
-    (omega (arith, t .loop-test .taken), written-more (t .before .loop .inv .1) (t .loop-test .taken) (c .before .before .component-samples .ensures))
-
-same-length : tie.Need-same-length Inv-loop μ-loop
-same-length c = c .before .loop .inv .1 .long ∙ sym (c .before .before .before .pre .2)
-
-returns : tie.Need-returns Inv-loop μ-loop
-returns c = written-all (c .before .loop .inv .1) (omega (arith, c .loop-test .left, c .before .loop .inv .0))
+returns : tie.Need-returns
+unfolding outputOf sampled
+returns c = c .before .before .all-outputs .ensures
 
 pub samples-spec : {M : Type 1} → statement M
-samples-spec =
-    tie.close
-    (tie.spec
-    Inv-loop
-    μ-loop
-    loop-holds
-    mul-component-samples
-    array-read-component-samples
-    component-samples-requires
-    (λ c. omega arith)
-    loop-less
-    loop-again
-    same-length
-    returns)
+samples-spec = tie.close (tie.spec all-outputs-requires (λ c. search needs) returns)

@@ -3,7 +3,7 @@ use mathlib.Core.Path.{ap, _∙_}
 use denote.Ref.{now}
 use lib.IntN.{pos}
 use lib.ListN.{length, length-replicate}
-use Rattle.reader.proofs.Decoded.{lent, left-is, shown-of, marked-of, decodes}
+use Rattle.reader.proofs.Decoded.{lent, left-is, shown-of, marked-of, placed-of, decodes}
 use borrow.Author.Needs.{needs}
 use Rattle.reader.proofs.decode.Statement.{statement}
 use Rattle.reader.proofs.decode.Tie as tie
@@ -11,14 +11,14 @@ use Rattle.reader.proofs.decode.Tie as tie
 stream-requires : tie.Need-stream-requires
 stream-requires c κs =
     let s = c .before .before .before .before in
-    let b = s .before .before .before .before in
+    let b = s .before .before .before .before .before in
     lent (b .pre .0) (s .setting-of .ensures) (ap length (c .before .before .clear .ensures) ∙ length-replicate (length (b .args .cells .now)) (pos 0) ∙ b .pre .2)
 
 show-by-requires : tie.Need-show-by-requires
 show-by-requires c κs =
     let t = c .before .before .before .before in
     let s = t .before .before .before .before .before in
-    let b = s .before .before .before .before in
+    let b = s .before .before .before .before .before in
     shown-of (b .pre .0) (b .args .damaged)
     (left-is (b .args .stream .now) (b .args .h) (b .args .damaged) (s .setting-of .ensures .is) (t .before .before .before .clear .ensures) (b .pre .2) (t .stream .ensures)) _ (b .pre .1)
 
@@ -27,22 +27,34 @@ mark-by-requires c κs =
     let y = c .before .before .before .before .before in
     let t = y .before .before .before .before .before in
     let s = t .before .before .before .before .before in
-    let b = s .before .before .before .before in (
+    let b = s .before .before .before .before .before in (
       marked-of (b .pre .0) (b .args .damaged)
           (left-is (b .args .stream .now) (b .args .h) (b .args .damaged) (s .setting-of .ensures .is) (t .before .before .before .clear .ensures) (b .pre .2) (t .stream .ensures)) (y .show-by .ensures),
       b .pre .3,
     )
 
-returns : tie.Need-returns
-returns c =
+place-by-requires : tie.Need-place-by-requires
+place-by-requires c κs =
     let m = c .before .before .before .before .before .before in
     let y = m .before .before .before .before .before .before in
     let t = y .before .before .before .before .before in
     let s = t .before .before .before .before .before in
-    let b = s .before .before .before .before in
+    let b = s .before .before .before .before .before in
+    placed-of (b .pre .0) (b .args .damaged)
+    (left-is (b .args .stream .now) (b .args .h) (b .args .damaged) (s .setting-of .ensures .is) (t .before .before .before .clear .ensures) (b .pre .2) (t .stream .ensures)) (y .show-by .ensures)
+    (now (b .args .marks)) (b .args .placed) (m .mark-by .ensures) _ (b .pre .4)
+
+returns : tie.Need-returns
+returns c =
+    let p = c .before .before .before .before .before .before in
+    let m = p .before .before .before .before .before .before .before in
+    let y = m .before .before .before .before .before .before in
+    let t = y .before .before .before .before .before in
+    let s = t .before .before .before .before .before in
+    let b = s .before .before .before .before .before in
     decodes (b .pre .0) (b .args .damaged)
     (left-is (b .args .stream .now) (b .args .h) (b .args .damaged) (s .setting-of .ensures .is) (t .before .before .before .clear .ensures) (b .pre .2) (t .stream .ensures)) (y .show-by .ensures)
-    (now (b .args .marks)) (b .pre .2) (m .mark-by .ensures) (c .before .clear2 .ensures)
+    (now (b .args .marks)) (b .args .placed) (m .mark-by .ensures) (b .pre .2) (p .place-by .ensures) (c .before .clear2 .ensures)
 
 pub decode-spec : {M : Type 1} → statement M
 decode-spec =
@@ -53,7 +65,9 @@ decode-spec =
     stream-requires
     show-by-requires
     mark-by-requires
+    place-by-requires
     (λ c κs. search needs)
+    (λ c. search needs)
     (λ c. search needs)
     (λ c. search needs)
     (λ c. search needs)

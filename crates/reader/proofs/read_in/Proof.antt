@@ -6,7 +6,7 @@ use Rattle.reader.proofs.read_in.Tie as tie
 
 read-by-requires : tie.Need-read-by-requires
 read-by-requires c κs =
-    let r = c .before .before .before .before .read .ensures in
+    let r = c .before .before .before .before .before .read .ensures in
     (λ i. r i .verdict, λ i. r i .header)
 
 pub read-in-spec : {M : Type 1} → statement M
@@ -15,6 +15,7 @@ read-in-spec =
     (tie.spec
     (λ c κs. search needs)
     read-by-requires
+    (λ c. search needs)
     (λ c. search needs)
     (λ c. search needs)
     (λ c. search needs)

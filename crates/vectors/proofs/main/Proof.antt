@@ -1,14 +1,14 @@
 -- `vectors::main`: ends. Assumes nothing.
-use Prim.Native.Nat.{_+_, _≤_, _-_}
+use Prim.Native.Nat.{_≤_, _<_, _-_}
 use borrow.Author.Needs.{needs}
 use Rattle.vectors.proofs.main.Statement.{statement}
 use Rattle.vectors.proofs.main.Tie as tie
 
 abbrev Inv-loop : tie.InvT-loop
-Inv-loop count switches₀ all₀ told₀ i₀ switches all told i = (switches + all + 1 ≤ i) × (told + 1 ≤ i)
+Inv-loop count t₀ i₀ t i = (t .agreed ≤ t .streams) × (t .told ≤ t .streams) × (t .streams < i)
 
 abbrev μ-loop : tie.MeasureT-loop
-μ-loop count switches₀ all₀ told₀ i₀ switches all told i = count - i
+μ-loop count t₀ i₀ t i = count - i
 
 pub main-spec : {M : Type 1} → statement M
 main-spec =
@@ -19,11 +19,6 @@ main-spec =
     (λ c κs. search needs)
     (λ c. search needs)
     (λ c κs. search needs)
-    (λ c. search needs)
-    (λ c. search needs)
-    (λ c. search needs)
-    (λ c. search needs)
-    (λ c. search needs)
     (λ c. search needs)
     (λ c. search needs)
     (λ c. search needs)

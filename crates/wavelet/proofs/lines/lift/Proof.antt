@@ -3,9 +3,9 @@ use mathlib.Core.Path.{_≡_}
 use Prim.Native.Nat.{_-_, _≤_}
 use native.Mathlib.Omega.{arith}
 use Rattle.wavelet.specs.Kinds.{stepsOf}
-use Rattle.wavelet.specs.Lines.{OntoLine}
+use Rattle.whole.specs.Cells.{OntoLine}
 use Rattle.wavelet.specs.Runs.{lifted}
-use Rattle.wavelet.proofs.Filling.{onto-none}
+use Rattle.whole.proofs.Filling.{onto-none}
 use Rattle.wavelet.proofs.Lifting.{turn-inside, turn-small, turn-step}
 use borrow.Author.Needs.{needs}
 use Rattle.wavelet.proofs.lines.lift.Statement.{statement}

@@ -3,7 +3,7 @@ use mathlib.Core.Path.{_≡_}
 use Prim.Native.Nat.{_-_, _≤_}
 use native.Mathlib.Omega.{arith}
 use Rattle.wavelet.specs.Kinds.{stepsOf}
-use Rattle.wavelet.proofs.Filling.{onto-none}
+use Rattle.whole.proofs.Filling.{onto-none}
 use Rattle.wavelet.proofs.Pairs.{PairsDone, pair-inside, pair-ready, pair-step}
 use borrow.Author.Needs.{needs}
 use Rattle.wavelet.proofs.lines.pairs_down.Statement.{statement}

@@ -1,0 +1,2 @@
+-- Laws of filling cells with numbers.
+pub mod Laws
