@@ -1,5 +1,7 @@
 /* Reads a page from a file, prints its record, and writes its samples as pictures that any viewer opens.
  *
+ * The record's last nine lines tell where the bytes of the file went: how many, and their share in per cent. They add up to the file; a refused page has none.
+ *
  * One component becomes a PGM, three of one size and precision a PPM; of any other page each component becomes a PGM of its own, PICTURE.0 and so on.
  * Samples of more than 8 bits take two bytes, the high one first. A comment line for each component has its distance.
  *
@@ -155,6 +157,26 @@ static void print_components(const struct pitchladle_page *page, const struct bu
     }
 }
 
+/* Of a stream of `length` bytes so many went to what is named. The share is rounded half up, by whole numbers: no float moves it. */
+static void print_share(const char *name, uint64_t bytes, uint64_t length)
+{
+    uint64_t hundredths = (20000 * bytes + length) / (2 * length);
+    printf("bytes %s %llu %llu.%02llu %%\n", name, (unsigned long long)bytes, (unsigned long long)(hundredths / 100), (unsigned long long)(hundredths % 100));
+}
+
+static void print_bytes(const struct pitchladle_bytes *b, uint64_t length)
+{
+    print_share("markers", b->markers, length);
+    print_share("precincts", b->precincts, length);
+    print_share("packets", b->packets, length);
+    print_share("significance", b->significance, length);
+    print_share("counts", b->counts, length);
+    print_share("data", b->data, length);
+    print_share("signs", b->signs, length);
+    print_share("filler", b->filler, length);
+    print_share("spoilt", b->spoilt, length);
+}
+
 static void print_record(const struct pitchladle_page *page, const struct buffers *b)
 {
     printf("answer %llu at %llu\n", (unsigned long long)page->answer, (unsigned long long)page->place);
@@ -164,6 +186,7 @@ static void print_record(const struct pitchladle_page *page, const struct buffer
     }
     print_components(page, b);
     printf("caption %s\n", page->caption ? "yes" : "no");
+    print_bytes(&page->bytes, page->place);
 }
 
 static int closed(FILE *file, const char *name)
@@ -323,8 +346,8 @@ static int usage(const char *program)
 {
     fprintf(stderr,
             "usage: %s [--damaged] [--distances] FILE [PICTURE]\n"
-            "reads the page in FILE, prints its record, and writes its samples to PICTURE; with --damaged behind damaged slices too, and PICTURE.lost is\n"
-            "white where samples are lost; with --distances PICTURE.distance has a distance for each sample\n",
+            "reads the page in FILE, prints its record and where its bytes went, and writes its samples to PICTURE; with --damaged behind damaged slices too,\n"
+            "and PICTURE.lost is white where samples are lost; with --distances PICTURE.distance has a distance for each sample\n",
             program);
     return FAILED;
 }

@@ -39,6 +39,24 @@ struct pitchladle_component {
     uint64_t width, height, precision, distance;
 };
 
+/* Where the bytes of the stream went, counted by what they hold. Each byte of the stream is counted once: of a page that is read the nine add up to the stream's
+ * length, which `place` is then. Of a page that is refused all nine are 0.
+ * `significance`, `counts`, `data` and `signs` carry the picture; what pads one of them to a whole byte is counted with it. `filler` is room that is paid for and
+ * holds nothing: the samples would be the same without it. `markers`, `precincts` and `packets` are what it takes to find the way to the rest. */
+struct pitchladle_bytes {
+    uint64_t markers;      /* the marker at the stream's beginning, the segments up to the first slice with their markers (extension segments, and captions in
+                              them, too), the slice headers, and the end marker */
+    uint64_t precincts;    /* precinct headers */
+    uint64_t packets;      /* packet headers */
+    uint64_t significance; /* significance subpackets: which groups of coefficients have any bits at all */
+    uint64_t counts;       /* bitplane count subpackets: how many bits each group has */
+    uint64_t data;         /* data subpackets: the bits of the coefficients, and their signs too where the page has no sign subpackets */
+    uint64_t signs;        /* sign subpackets, where the page has them */
+    uint64_t filler;       /* behind what a count, data or sign subpacket holds, bytes that its length declares and that hold nothing */
+    uint64_t spoilt;       /* the precincts of slices that are lost, whole, with their headers: nothing of them is in the numbers above, but their slice headers
+                              are in `markers`. Only pitchladle_read_damaged and pitchladle_read_damaged_places lose slices; else 0 */
+};
+
 /* The page record. Of a page that is refused all is 0 but answer and place. A bench caption is an extension segment of type 0x8B01 before the first slice header,
  * if only an empty one; the record tells that one is there, and nothing of what it says. */
 struct pitchladle_page {
@@ -46,6 +64,7 @@ struct pitchladle_page {
     uint64_t components;                      /* 1 to 4 */
     uint64_t caption;                         /* 1 where a bench caption is there, else 0 */
     struct pitchladle_component component[4]; /* 0 from `components` on */
+    struct pitchladle_bytes bytes;
 };
 
 /* Reads a page. With N as pitchladle_needs says, it takes N sample cells and 2 N work cells; more may be lent, and with fewer the answer is 5.

@@ -1,6 +1,6 @@
 #!/bin/sh
-# Reads generated pages, some of several megapixels, with the C example over the static library, and compares answers, distances and samples with the
-# independent decoder's, in the damaged mode and with distances at each sample too; then what the record says of a caption with stored answers.
+# Reads generated pages, some of several megapixels, with the C example over the static library, and compares answers, distances, samples and where the bytes
+# went with the independent decoder's, in the damaged mode and with distances at each sample too; then what the record says of a caption with stored answers.
 # Usage: library.sh FOLDER, where tests/build.sh has put its programs. Stops at the first difference.
 set -eu
 bin=$(realpath "${1:?"usage: library.sh FOLDER"}")
@@ -22,11 +22,16 @@ compare_by() {
     $run "$out/read" $mode "$out/page.jxs" "$out/ours/page" >"$out/record" || status=$?
     echo "$status" >"$out/ours/status"
     answer "$out/record" >"$out/ours/answer"
-    "$bin/page" --any $mode --pictures "$out/theirs/page" <"$out/page.jxs" >"$out/report"
+    sed -n '/^bytes /p' "$out/record" >"$out/ours/bytes"
+    "$bin/page" --any $mode --bytes --pictures "$out/theirs/page" <"$out/page.jxs" >"$out/report"
     status_for "$out/report" >"$out/theirs/status"
     answer "$out/report" >"$out/theirs/answer"
-    diff -r -q "$out/ours" "$out/theirs" ||
-        { echo "${mode:+$mode, }stream $*: $(cat "$out/ours/answer"), status $status, independent decoder $(cat "$out/theirs/answer")"; exit 1; }
+    shares "$out/report" >"$out/theirs/bytes"
+    diff -r -q "$out/ours" "$out/theirs" || {
+        echo "${mode:+$mode, }stream $*: $(cat "$out/ours/answer"), status $status, independent decoder $(cat "$out/theirs/answer")"
+        diff "$out/ours/bytes" "$out/theirs/bytes" || true
+        exit 1
+    }
     echo "${mode:+$mode, }stream $*: $(head -n 1 "$out/ours/answer"), same"
     rm -r "$out/ours" "$out/theirs"
 }
@@ -35,6 +40,19 @@ compare() { compare_by '' "$@"; }
 
 # answer REPORT: the first line, and what the distances at the samples come to
 answer() { sed -n '1p; / largest /p' "$1"; }
+
+# shares REPORT: what the example prints of bytes where the independent decoder says this: of a page that is read a line for each total, with its
+# hundredths of a per cent of the stream's length, rounded half up; of a refused one nothing
+shares() {
+    awk '/^answer 0 / { length_in_bytes = $4 }
+        /^bytes / && length_in_bytes {
+            for (i = 2; i < NF; i += 2) {
+                twice = 20000 * $(i + 1) + length_in_bytes
+                hundredths = (twice - twice % (2 * length_in_bytes)) / (2 * length_in_bytes)
+                printf "bytes %s %s %d.%02d %%\n", $i, $(i + 1), (hundredths - hundredths % 100) / 100, hundredths % 100
+            }
+        }' "$1"
+}
 
 # status_for REPORT: the exit status of the example where the independent decoder says this: 1 refused, 3 read with loss, 0 read without
 status_for() { awk 'NR == 1 && !/^answer 0 / { status = 1 } / lost / && $4 > 0 { status = 3 } END { print status + 0 }' "$1"; }
@@ -47,6 +65,7 @@ compare measured uniform 1501 1999
 for seed in 1 2 3 4 5 6; do
     compare syntax $seed large
     compare picture $seed large
+    compare filled $seed large
     compare damaged $seed large
     compare_by --damaged spoilt $seed large
     compare_by --damaged apart $seed large

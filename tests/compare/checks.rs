@@ -1,5 +1,6 @@
 //! What the output of a program must be like, whatever the other one prints.
 
+use crate::bytes::{self, Totals};
 use crate::options::Mode;
 use crate::printed::{self, Printed};
 use independent::{a, text};
@@ -11,14 +12,16 @@ pub struct Answer {
     pub accepted: bool,
     pub refused: bool,
     pub page: Vec<Printed>,
+    /// Where the bytes went, if the last line tells it.
+    pub totals: Option<Totals>,
 }
 
 impl Answer {
     pub fn new(text: Vec<u8>) -> Answer {
         let accepted = text.starts_with(b"answer 0 ");
         let refused = text.starts_with(b"answer ") && !accepted;
-        let page = printed::page(&text);
-        Answer { text, accepted, refused, page }
+        let (page, totals) = (printed::page(&text), bytes::totals(&text));
+        Answer { text, accepted, refused, page, totals }
     }
 
     pub fn is_none(&self) -> bool {
@@ -36,17 +39,36 @@ impl Answer {
         self.page.iter().any(nearer)
     }
 
-    /// All before the distances at the samples.
-    pub fn before_places(&self) -> &[u8] {
-        const FIRST: &[u8] = b"\ndistances 0\n";
-        let end = self.text.windows(FIRST.len()).position(|window| window == FIRST);
+    /// All before the distances at the samples, or before the line on bytes.
+    pub fn page_part(&self) -> &[u8] {
+        let (places, bytes) = (self.before(b"\ndistances 0\n"), self.before(b"\nbytes "));
+        if places.len() < bytes.len() {
+            places
+        } else {
+            bytes
+        }
+    }
+
+    /// All before the marks.
+    pub fn before_marks(&self) -> &[u8] {
+        self.before(b"\nmarks 0\n")
+    }
+
+    /// The lines before one that begins so, or all.
+    fn before(&self, start: &[u8]) -> &[u8] {
+        let end = self.text.windows(start.len()).position(|window| window == start);
         end.map_or(&self.text, |end| &self.text[..end + 1])
+    }
+
+    fn lines(&self) -> usize {
+        self.text.iter().filter(|&&byte| byte == b'\n').count()
     }
 }
 
 /// What is wrong with an answer by itself.
 pub fn fault(mode: Mode, made: &Made, answer: &Answer) -> Option<String> {
-    let unlike_plain = || answer.before_places() != plain(mode, &made.bytes);
+    let unlike_plain = || answer.page_part() != plain(mode, &made.bytes, answer);
+    let refusal_lines = 1 + usize::from(mode.has_bytes() && answer.refused);
     // Damage that breaks no rule may move samples.
     let promised = answer.accepted && (made.sound || answer.has_lost());
     let far = || made.exact.as_ref().map_or(false, |exact| !keeps_distance(&answer.page, exact));
@@ -58,8 +80,10 @@ pub fn fault(mode: Mode, made: &Made, answer: &Answer) -> Option<String> {
         Some(String::from("a sound stream is not read as a page without loss"))
     } else if mode == Mode::Places && answer.accepted && unlike_plain() {
         Some(String::from("before the distances stands another page than without them"))
-    } else if !answer.accepted && answer.text.iter().filter(|&&byte| byte == b'\n').count() != 1 {
-        Some(String::from("a refusal is not one line"))
+    } else if mode == Mode::Bytes && (answer.accepted || answer.refused) && unlike_plain() {
+        Some(String::from("before the bytes stands another page than without them"))
+    } else if !answer.accepted && answer.lines() != refusal_lines {
+        Some(String::from("a refusal has more lines or fewer than it must"))
     } else if mode.has_places() && answer.accepted && !has_right_places(&answer.page, &made.bytes) {
         Some(String::from("a distance exceeds its component's, or is not the largest where a sample is lost"))
     } else if promised && far() {
@@ -69,23 +93,27 @@ pub fn fault(mode: Mode, made: &Made, answer: &Answer) -> Option<String> {
     }
 }
 
-/// What is printed before the distances for a stream that a reading accepts: as `independent/` reads it, in the modes that lose slices
-/// with nothing lost.
-fn plain(mode: Mode, stream: &[u8]) -> Vec<u8> {
+/// What is printed of a stream before the distances or the bytes: as `independent/` reads it, where marks are printed with nothing lost.
+/// Only the program that answers knows how many samples it has room for: it may find them too many, where nothing else is wrong.
+fn plain(mode: Mode, stream: &[u8], answer: &Answer) -> Vec<u8> {
+    let room = if answer.text.starts_with(b"answer 5 ") { 0 } else { usize::MAX };
     let mut out = Vec::new();
-    if let Ok(page) = independent::read(stream, usize::MAX) {
-        text::page(&mut out, &page, stream.len()).expect("memory takes it");
-        if mode.loses_slices() {
-            let marks = page.components.iter().map(|component| vec![false; component.samples.len()]).collect();
-            text::marks(&mut out, &page, &marks).expect("memory takes it");
+    match independent::read(stream, room) {
+        Ok(page) => {
+            text::page(&mut out, &page, stream.len()).expect("memory takes it");
+            if mode.has_marks() {
+                let marks = page.components.iter().map(|component| vec![false; component.samples.len()]).collect();
+                text::marks(&mut out, &page, &marks).expect("memory takes it");
+            }
         }
+        Err(refusal) => text::refusal(&mut out, refusal).expect("memory takes it"),
     }
     out
 }
 
 /// What is wrong with the answer for a stream that lost a slice and otherwise is a sound twin.
 pub fn fault_beside_twin(mode: Mode, answer: &Answer, twin: &Answer, twin_bytes: &[u8]) -> Option<String> {
-    if twin.before_places() != plain(mode, twin_bytes) {
+    if twin.page_part() != plain(mode, twin_bytes, twin) {
         Some(String::from("the sound stream beside it is not read as a page without loss"))
     } else if !keeps_samples(&answer.page, &twin.page) {
         Some(String::from("a sample that is not marked, or its distance, is not that of the sound stream"))

@@ -1,7 +1,7 @@
 //! Runs two programs on made streams and compares every byte that they print. Stops at the first difference.
 //!
 //! Usage: `compare FIRST SECOND [sound N] [damaged N] [bounds N] [foreign N] [headers N] [seed S] [large]`,
-//! `compare FIRST SECOND spoilt N [seed S] [large]` or `compare FIRST SECOND placed N [seed S] [large]`. FIRST and SECOND are
+//! or `compare FIRST SECOND spoilt N [seed S] [large]`, with `placed` or `counted` in the place of `spoilt`. FIRST and SECOND are
 //! command lines whose words are separated by spaces; each gets the stream on standard input. Sound streams are a third each
 //! of random syntax, pictures and coefficients; a page program must accept them, and for the latter two its samples must keep
 //! the distance that it prints. `stream KIND SEED` makes a stream again.
@@ -15,7 +15,13 @@
 //! damaged mode. Three eighths of the streams are coarse in a part of the page, and as many have spoilt slices. Of what SECOND
 //! prints all before the distances must be what is printed without them; no distance may exceed its component's, but that of
 //! a lost sample is the largest there is; and each sample must keep its own.
+//!
+//! With `counted` they are asked where the bytes went: the letter is `b`, or for half of the streams `c`, in the damaged mode. A
+//! quarter of the streams has much filler, three eighths have spoilt slices. Of what SECOND prints all before the last line must be
+//! what is printed without it, marks left out; that line must add up to the stream's length, or for a refused stream say 0 nine
+//! times; for a sound stream, or one that lost the slice in which it differs from a sound twin, it must be the count of its maker.
 
+mod bytes;
 mod checks;
 mod options;
 mod printed;
@@ -40,8 +46,7 @@ fn main() -> ExitCode {
             eprintln!(
                 "usage: compare FIRST SECOND [sound N] [damaged N] [bounds N] [foreign N] [headers N] [seed S] [large]"
             );
-            eprintln!("       compare FIRST SECOND spoilt N [seed S] [large]");
-            eprintln!("       compare FIRST SECOND placed N [seed S] [large]");
+            eprintln!("       compare FIRST SECOND (spoilt | placed | counted) N [seed S] [large]");
             return ExitCode::from(2);
         }
     };
@@ -58,30 +63,36 @@ fn main() -> ExitCode {
     }
 }
 
-/// How many streams were accepted, and of these how many lost a sample or had one that is nearer than its component's distance.
+/// How many streams were accepted, and of these how many lost a slice, had a sample that is nearer than its component's distance, or
+/// had filler.
 #[derive(Default)]
 struct Tally {
     accepted: AtomicUsize,
     lossy: AtomicUsize,
     nearer: AtomicUsize,
+    filled: AtomicUsize,
 }
 
 impl Tally {
     fn take(&self, answer: &Answer) {
         self.accepted.fetch_add(usize::from(answer.accepted), Ordering::SeqCst);
-        self.lossy.fetch_add(usize::from(answer.has_lost()), Ordering::SeqCst);
+        self.lossy.fetch_add(usize::from(answer.has_lost() || bytes::has_spoilt(answer)), Ordering::SeqCst);
         self.nearer.fetch_add(usize::from(answer.has_nearer()), Ordering::SeqCst);
+        self.filled.fetch_add(usize::from(bytes::has_filler(answer)), Ordering::SeqCst);
     }
 
     fn print(self, options: &Options) {
         let (all, accepted) = (options.streams(), self.accepted.into_inner());
-        let (lossy, nearer) = (self.lossy.into_inner(), self.nearer.into_inner());
+        let [lossy, nearer, filled] = [self.lossy, self.nearer, self.filled].map(AtomicUsize::into_inner);
         let mut notes = Vec::new();
         if options.loses_slices() {
             notes.push(format!("{lossy} with lost slices"));
         }
         if options.has_places() {
             notes.push(format!("{nearer} with samples nearer than their component"));
+        }
+        if options.has_bytes() {
+            notes.push(format!("{filled} with filler"));
         }
         let notes = if notes.is_empty() { String::new() } else { format!(" ({})", notes.join(", ")) };
         println!("{all} streams, {accepted} accepted{notes}: no difference");
@@ -164,8 +175,12 @@ fn fault(options: &Options, case: Case, made: &Made, second: &Answer, input: &Pa
     if let Some(fault) = checks::fault(case.mode, made, second) {
         return Ok(Some(fault));
     }
-    if case.mode == Mode::DamagedPlaces && second.before_places() != again(Mode::Damaged, &made.bytes)? {
+    if case.mode == Mode::DamagedPlaces && second.page_part() != again(Mode::Damaged, &made.bytes)? {
         return Ok(Some(String::from("before the distances stands another page than without them")));
+    }
+    if case.mode.has_bytes() {
+        let marked = || again(Mode::Damaged, &made.bytes).map(Answer::new);
+        return bytes_fault(case, made, second, marked);
     }
     if case.kind != Kind::Apart || !case.mode.loses_slices() {
         return Ok(None);
@@ -179,6 +194,23 @@ fn fault(options: &Options, case: Case, made: &Made, second: &Answer, input: &Pa
     let twin = make(Kind::Twin, case.seed, options.limits);
     let whole = Answer::new(again(case.mode, &twin.bytes)?);
     Ok(checks::fault_beside_twin(case.mode, second, &whole, &twin.bytes))
+}
+
+/// What is wrong with the bytes that the second program prints; `marked` is what it prints of the same stream with marks.
+fn bytes_fault(
+    case: Case,
+    made: &Made,
+    second: &Answer,
+    marked: impl Fn() -> io::Result<Answer>,
+) -> io::Result<Option<String>> {
+    let fault = bytes::fault(case.mode, made, second);
+    if fault.is_some() || !case.mode.loses_slices() {
+        return Ok(fault);
+    }
+    if case.kind == Kind::Apart && second.refused {
+        return Ok(Some(String::from("a stream spoilt in one slice is refused")));
+    }
+    Ok(bytes::fault_beside_marks(second, &marked()?))
 }
 
 /// What a program prints for a stream in a mode.

@@ -6,6 +6,7 @@ use streams::Kind;
 /// The sorts of streams that are read in other modes than that of the page program.
 const SPOILT: &str = "spoilt";
 const PLACED: &str = "placed";
+const COUNTED: &str = "counted";
 
 /// How the programs are asked to read a stream.
 #[derive(Clone, Copy, Debug, PartialEq, Eq)]
@@ -14,6 +15,8 @@ pub enum Mode {
     Damaged,
     Places,
     DamagedPlaces,
+    Bytes,
+    DamagedBytes,
 }
 
 impl Mode {
@@ -24,17 +27,29 @@ impl Mode {
             Mode::Damaged => b"d",
             Mode::Places => b"p",
             Mode::DamagedPlaces => b"q",
+            Mode::Bytes => b"b",
+            Mode::DamagedBytes => b"c",
         }
     }
 
     /// Whether spoilt slices are lost instead of the page.
     pub fn loses_slices(self) -> bool {
+        matches!(self, Mode::Damaged | Mode::DamagedPlaces | Mode::DamagedBytes)
+    }
+
+    /// Whether what is lost is marked, sample by sample.
+    pub fn has_marks(self) -> bool {
         matches!(self, Mode::Damaged | Mode::DamagedPlaces)
     }
 
     /// Whether there is a distance at each sample.
     pub fn has_places(self) -> bool {
         matches!(self, Mode::Places | Mode::DamagedPlaces)
+    }
+
+    /// Whether the last line tells where the bytes went.
+    pub fn has_bytes(self) -> bool {
+        matches!(self, Mode::Bytes | Mode::DamagedBytes)
     }
 }
 
@@ -57,7 +72,7 @@ pub struct Options {
 
 impl Options {
     pub fn new(words: &[String]) -> Option<Options> {
-        let other = [SPOILT, PLACED].into_iter().find(|sort| words.iter().any(|word| word == sort));
+        let other = [SPOILT, PLACED, COUNTED].into_iter().find(|sort| words.iter().any(|word| word == sort));
         let counts = match other {
             Some(sort) => vec![(sort, 0)],
             None => vec![("sound", 300), ("damaged", 300), ("bounds", 200), ("foreign", 20), ("headers", 0)],
@@ -95,6 +110,7 @@ impl Options {
             let (kind, mode) = match sort {
                 SPOILT => (spoilt(n), Mode::Damaged),
                 PLACED => placed(n),
+                COUNTED => counted(n),
                 "sound" => (sound(n), Mode::Page),
                 "damaged" => (Kind::Damaged, Mode::Page),
                 "bounds" => (Kind::Bounds, Mode::Page),
@@ -107,11 +123,15 @@ impl Options {
     }
 
     pub fn loses_slices(&self) -> bool {
-        self.counts.iter().any(|(sort, _)| [SPOILT, PLACED].contains(sort))
+        self.counts.iter().any(|(sort, _)| [SPOILT, PLACED, COUNTED].contains(sort))
     }
 
     pub fn has_places(&self) -> bool {
         self.counts.iter().any(|(sort, _)| *sort == PLACED)
+    }
+
+    pub fn has_bytes(&self) -> bool {
+        self.counts.iter().any(|(sort, _)| *sort == COUNTED)
     }
 }
 
@@ -139,6 +159,22 @@ fn placed(n: usize) -> (Kind, Mode) {
         10 => (Kind::Apart, Mode::Places),
         11 => (Kind::Apart, Mode::DamagedPlaces),
         n_in_turn => (others(n_in_turn, n / 32), [Mode::Places, Mode::DamagedPlaces][n / 16 % 2]),
+    }
+}
+
+/// A quarter of the streams with much filler, three eighths with spoilt slices, an eighth coarse in a part, the rest of all other
+/// sorts. Both modes meet each kind, and get half of the streams each.
+fn counted(n: usize) -> (Kind, Mode) {
+    match n % 16 {
+        0..=2 => (Kind::Filled, Mode::Bytes),
+        3 => (Kind::Filled, Mode::DamagedBytes),
+        4 => (Kind::Coarse, Mode::Bytes),
+        5 => (Kind::Coarse, Mode::DamagedBytes),
+        6 => (Kind::Spoilt, Mode::Bytes),
+        7 | 8 => (Kind::Spoilt, Mode::DamagedBytes),
+        9 => (Kind::Apart, Mode::Bytes),
+        10 | 11 => (Kind::Apart, Mode::DamagedBytes),
+        n_in_turn => (others(n_in_turn, n / 32), [Mode::Bytes, Mode::DamagedBytes][n / 16 % 2]),
     }
 }
 

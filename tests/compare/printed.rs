@@ -47,6 +47,7 @@ pub fn page(answer: &[u8]) -> Vec<Printed> {
             }
             ["marks", i] => (block, number) = (Block::Marks, i.parse().unwrap_or(usize::MAX)),
             ["distances", i] => (block, number) = (Block::Distances, i.parse().unwrap_or(usize::MAX)),
+            ["bytes", ..] => number = usize::MAX,
             _ => {
                 if let Some(component) = components.get_mut(number) {
                     take_line(component, block, line, &words);

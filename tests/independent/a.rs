@@ -25,6 +25,10 @@ const CAP: u16 = 0xff50;
 /// The vendor extension that holds a bench caption.
 const CAPTION: u16 = 0x8b01;
 
+/// The bytes of a marker, and of a slice header with its marker (Table A.27).
+const MARKER: usize = 2;
+const SLICE_HEADER: usize = 6;
+
 /// The largest width and height built, in grid points.
 const MAX_SIDE: usize = 16_384;
 
@@ -70,6 +74,8 @@ pub struct Header {
     pub caption: bool,
     /// The offset of the first slice marker.
     pub first_slice: usize,
+    /// The bytes of the markers and segments met so far.
+    pub markers: usize,
 }
 
 impl Header {
@@ -96,6 +102,7 @@ impl Header {
             wgt: Vec::new(),
             caption: false,
             first_slice: 0,
+            markers: 0,
         }
     }
 }
@@ -134,14 +141,7 @@ fn expect_length(s: &[u8], at: usize, right: usize) -> Result<usize, Refusal> {
 
 /// Reads and judges a stream up to and with the first slice marker.
 pub fn header(s: &[u8]) -> Result<Header, Refusal> {
-    expect_marker(s, 0, SOC)?;
-    expect_marker(s, 2, CAP)?;
-    let capabilities = segment_length(s, 4)?;
-    require(capabilities >= 2, Row::Value, 4)?;
-    let mut at = 4 + capabilities;
-    expect_marker(s, at, PIH)?;
-    let mut header = picture_header(s, at + 2)?;
-    at += 2 + 26;
+    let (mut header, mut at) = opening(s)?;
     let mut registered = false;
     loop {
         let field = at + 2;
@@ -175,8 +175,22 @@ pub fn header(s: &[u8]) -> Result<Header, Refusal> {
             }
             _ => return Err(Refusal { row: Row::Marker, place: at }),
         };
+        header.markers += MARKER + length;
         at = field + length;
     }
+}
+
+/// The start, the capabilities and the picture header, which stand first in this order; and the offset behind them.
+fn opening(s: &[u8]) -> Result<(Header, usize), Refusal> {
+    expect_marker(s, 0, SOC)?;
+    expect_marker(s, 2, CAP)?;
+    let capabilities = segment_length(s, 4)?;
+    require(capabilities >= 2, Row::Value, 4)?;
+    let at = 4 + capabilities;
+    expect_marker(s, at, PIH)?;
+    let mut header = picture_header(s, at + 2)?;
+    header.markers = MARKER + (MARKER + capabilities) + (MARKER + 26);
+    Ok((header, at + 2 + 26))
 }
 
 /// The picture header (A.4.4, Table A.7), from its length field on.
@@ -222,6 +236,7 @@ fn picture_header(s: &[u8], at: usize) -> Result<Header, Refusal> {
         wgt: Vec::new(),
         caption: false,
         first_slice: 0,
+        markers: 0,
     })
 }
 
@@ -349,7 +364,7 @@ fn undecomposed_components(s: &[u8], at: usize, header: &Header) -> Result<Refus
     Ok(Refusal { row: Row::NotBuilt, place })
 }
 
-/// Reads the header of slice `t` (A.4.14, Table A.27) and gives the offset behind it.
+/// Reads the header of slice `t` (A.4.14, Table A.27) and gives its bytes.
 pub fn slice_header(s: &[u8], at: usize, t: usize) -> Result<usize, Refusal> {
     match marker_at(s, at)? {
         SLH => {}
@@ -358,13 +373,14 @@ pub fn slice_header(s: &[u8], at: usize, t: usize) -> Result<usize, Refusal> {
     }
     expect_length(s, at + 2, 4)?;
     require(usize::from(u16_at(s, at + 4)) == t, Row::Value, at + 4)?;
-    Ok(at + 6)
+    Ok(SLICE_HEADER)
 }
 
-/// Reads the end marker (A.4.2), behind which nothing may stand.
-pub fn end_of_codestream(s: &[u8], at: usize) -> Result<(), Refusal> {
+/// Reads the end marker (A.4.2), behind which nothing may stand, and gives its bytes.
+pub fn end_of_codestream(s: &[u8], at: usize) -> Result<usize, Refusal> {
     expect_marker(s, at, EOC)?;
-    require(at + 2 == s.len(), Row::Marker, at + 2)
+    require(at + MARKER == s.len(), Row::Marker, at + MARKER)?;
+    Ok(MARKER)
 }
 
 #[cfg(test)]

@@ -1,6 +1,6 @@
 //! Reading bits: what the subpackets of Annex C are made of.
 
-use super::b::NG;
+use super::b::{ceil_div, NG};
 use super::Row;
 
 /// Reads bits from the left of each byte.
@@ -12,6 +12,16 @@ pub struct Bits<'a> {
 impl<'a> Bits<'a> {
     pub fn new(bytes: &'a [u8]) -> Bits<'a> {
         Bits { bytes, at: 0 }
+    }
+
+    /// How many bytes are begun: the bits that are left in the last of them belong to what was read.
+    pub fn begun(&self) -> usize {
+        ceil_div(self.at, 8)
+    }
+
+    /// How many bytes are not begun.
+    pub fn untouched(&self) -> usize {
+        self.bytes[self.begun()..].len()
     }
 
     /// The next bits from the highest down, at least 57 of them; behind the end stand zeros.
@@ -136,6 +146,41 @@ mod tests {
         };
         let values: Vec<i32> = (0..8).map(|n| code(n, 2)).collect();
         assert_eq!(values, [0, -1, 1, -2, 2, 3, 4, 5]);
+    }
+
+    #[test]
+    fn bytes_begun_and_untouched() {
+        let after = |widths: &[u32]| {
+            let mut bits = Bits::new(&[0; 3]);
+            widths.iter().for_each(|&width| assert_eq!(bits.take(width), Ok(0)));
+            (bits.begun(), bits.untouched())
+        };
+        assert_eq!(after(&[]), (0, 3));
+        assert_eq!(after(&[0]), (0, 3));
+        assert_eq!(after(&[1]), (1, 2));
+        assert_eq!(after(&[8]), (1, 2));
+        assert_eq!(after(&[8, 1]), (2, 1));
+        assert_eq!(after(&[8, 8, 7]), (3, 0));
+        assert_eq!(after(&[8, 8, 8]), (3, 0));
+    }
+
+    /// A code takes the zero behind its ones too; a group takes a nibble for each bitplane.
+    #[test]
+    fn bytes_begun_by_codes_and_groups() {
+        let after_codes = |bytes: &[u8], codes| {
+            let mut bits = Bits::new(bytes);
+            (0..codes).for_each(|_| assert!(bits.vlc(0, 32).is_ok()));
+            (bits.begun(), bits.untouched())
+        };
+        assert_eq!(after_codes(&[0xfe, 0], 1), (1, 1));
+        assert_eq!(after_codes(&[0xff, 0], 1), (2, 0));
+        assert_eq!(after_codes(&[0, 0xff], 8), (1, 1));
+        let after_group = |planes| {
+            let mut bits = Bits::new(&[0; 16]);
+            bits.group(planes).unwrap();
+            (bits.begun(), bits.untouched())
+        };
+        assert_eq!([1, 2, 3, 31, 32].map(after_group), [(1, 15), (1, 15), (2, 14), (16, 0), (16, 0)]);
     }
 
     #[test]

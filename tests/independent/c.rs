@@ -3,6 +3,7 @@
 use super::a::{self, Header};
 use super::b::{ceil_div, Band, Layout, Line, NG, SS};
 use super::bits::Bits;
+use super::bytes::Bytes;
 use super::d;
 use super::e::{self, Plane};
 use super::{require, Refusal, Row};
@@ -22,28 +23,33 @@ pub struct Decoded {
     pub planes: Vec<Plane<i64>>,
     /// By band index: the largest truncation position over all precincts that hold a coefficient of the band.
     pub largest_t: Vec<u32>,
+    /// Where the bytes of the precincts went.
+    pub bytes: Bytes,
 }
 
 /// Reads all slices and the end marker.
 pub fn codestream(s: &[u8], header: &Header, layout: &Layout) -> Result<Decoded, Refusal> {
     let mut reader = Reader::new(s, header, layout);
-    each_slice(s, header, layout, |rows, at| reader.slice(rows, at))?;
+    reader.decoded.bytes.markers = each_slice(s, header, layout, |rows, at| reader.slice(rows, at))?;
     Ok(reader.decoded)
 }
 
 /// Goes through all slices and the end marker. `slice` takes a slice's rows of precincts and the offset behind its header,
-/// and gives the offset behind the slice.
+/// and gives the offset behind the slice. Gives the bytes of all markers and segments, from the first of the stream on.
 pub fn each_slice(
     s: &[u8],
     header: &Header,
     layout: &Layout,
     mut slice: impl FnMut(Range<usize>, usize) -> Result<usize, Refusal>,
-) -> Result<(), Refusal> {
+) -> Result<usize, Refusal> {
     let mut at = header.first_slice;
+    let mut markers = header.markers;
     for (t, rows) in layout.slices().enumerate() {
-        at = slice(rows, a::slice_header(s, at, t)?)?;
+        let size = a::slice_header(s, at, t)?;
+        markers += size;
+        at = slice(rows, at + size)?;
     }
-    a::end_of_codestream(s, at)
+    Ok(markers + a::end_of_codestream(s, at)?)
 }
 
 /// L_prc of the precinct at an offset (Table C.1), as it is declared.
@@ -52,9 +58,14 @@ pub fn precinct_length(s: &[u8], at: usize) -> Result<usize, Refusal> {
     Ok(big_endian(&s[at..at + 3]) as usize)
 }
 
+/// The bytes of a precinct header (Table C.1), padding behind the last D included.
+fn precinct_header_length(layout: &Layout) -> usize {
+    5 + ceil_div(layout.existing(), 4)
+}
+
 /// The bytes of a precinct behind its header, `lprc` of them.
 pub fn precinct_body(s: &[u8], layout: &Layout, at: usize, lprc: usize) -> Result<Range<usize>, Refusal> {
-    let start = at + 5 + ceil_div(layout.existing(), 4);
+    let start = at + precinct_header_length(layout);
     require(start + lprc <= s.len(), Row::Length, at)?;
     Ok(start..start + lprc)
 }
@@ -139,7 +150,11 @@ impl<'a> Reader<'a> {
             s,
             header,
             layout,
-            decoded: Decoded { planes: e::planes(layout), largest_t: vec![0; layout.bands.len()] },
+            decoded: Decoded {
+                planes: e::planes(layout),
+                largest_t: vec![0; layout.bands.len()],
+                bytes: Bytes::default(),
+            },
             bands: layout.bands.iter().map(state).collect(),
             codings: vec![Coding::default(); layout.bands.len()],
             indices: Vec::new(),
@@ -187,6 +202,7 @@ impl<'a> Reader<'a> {
             let t = truncation(q, r, *weight, self.header.br);
             *coding = Coding { d, t, raw: None };
         }
+        self.decoded.bytes.precincts += precinct_header_length(self.layout);
         Ok(body)
     }
 
@@ -206,7 +222,7 @@ impl<'a> Reader<'a> {
         let signs_at = data_at + head.ldat;
         let signs = subpacket(self.s, signs_at, head.sign_length(self.header.fs), end)?;
         if self.header.fs {
-            unpack_signs(&mut self.indices, signs).map_err(|row| Refusal { row, place: signs_at })?;
+            self.unpack_signs(signs).map_err(|row| Refusal { row, place: signs_at })?;
         }
         self.dequantise(&spans);
         Ok(signs_at + signs.len())
@@ -224,6 +240,7 @@ impl<'a> Reader<'a> {
                 require(raw == head.raw, Row::Mode, at)?;
             }
         }
+        self.decoded.bytes.packets += head.size;
         Ok(head)
     }
 
@@ -262,6 +279,9 @@ impl<'a> Reader<'a> {
             }
             first_flag += significance_groups(span);
         }
+        self.decoded.bytes.significance += ceil_div(first_flag, 8);
+        self.decoded.bytes.counts += bits.begun();
+        self.decoded.bytes.filler += bits.untouched();
         Ok(())
     }
 
@@ -280,6 +300,26 @@ impl<'a> Reader<'a> {
                 self.indices.push(group.map(|member| signed(member, planes)));
             }
         }
+        self.decoded.bytes.data += bits.begun();
+        self.decoded.bytes.filler += bits.untouched();
+        Ok(())
+    }
+
+    /// The sign subpacket (C.5.5, Table C.10): a bit for each index that is not 0.
+    fn unpack_signs(&mut self, signs: &[u8]) -> Result<(), Row> {
+        let mut bits = Bits::new(signs);
+        for group in &mut self.indices {
+            let present = group.iter().filter(|&&index| index != 0).count() as u32;
+            let mut signs = bits.take(present)?;
+            for index in group.iter_mut().rev().filter(|index| **index != 0) {
+                if signs & 1 == 1 {
+                    *index = -*index;
+                }
+                signs >>= 1;
+            }
+        }
+        self.decoded.bytes.signs += bits.begun();
+        self.decoded.bytes.filler += bits.untouched();
         Ok(())
     }
 
@@ -416,22 +456,6 @@ fn in_range(m: i32) -> Result<u8, Row> {
     }
 }
 
-/// The sign subpacket (C.5.5, Table C.10): a bit for each index that is not 0.
-fn unpack_signs(indices: &mut [[i32; NG]], signs: &[u8]) -> Result<(), Row> {
-    let mut bits = Bits::new(signs);
-    for group in indices {
-        let present = group.iter().filter(|&&index| index != 0).count() as u32;
-        let mut signs = bits.take(present)?;
-        for index in group.iter_mut().rev().filter(|index| **index != 0) {
-            if signs & 1 == 1 {
-                *index = -*index;
-            }
-            signs >>= 1;
-        }
-    }
-    Ok(())
-}
-
 /// An index from its magnitude of `planes` bits with the sign bit above.
 fn signed(member: u32, planes: u32) -> i32 {
     let (size, sign) = ((member & ((1 << planes) - 1)) as i32, (member >> planes) as i32);
@@ -489,6 +513,53 @@ mod tests {
         for lh in [false, true] {
             assert_eq!(read_precinct(lh, false, 3, 3), Err(unfilled));
             assert_eq!(read_precinct(lh, false, 3, 12), Err(unfilled));
+        }
+    }
+
+    /// Where the bytes go of a precinct of four like packets, each of one code group: for each packet those of its subpackets, and filler.
+    /// A packet is made of flags and counts, data, and signs; all bands have the mode `d`.
+    fn packet_bytes(fs: bool, raw: bool, d: u8, flags: &[u8], [counts, data, signs]: [&[u8]; 3]) -> [usize; 5] {
+        let wgt = vec![a::Weight { gain: 0, priority: 0 }; 4];
+        let header = Header { fs, wgt, ..Header::plain(2, 2, 1, 1, &[(1, 1)]) };
+        let layout = Layout::new(&header);
+        let [lcnt, ldat, lsgn] = [counts, data, signs].map(|bytes| bytes.len() as u64);
+        let fields = u64::from(raw) << 39 | ldat << 24 | lcnt << 11 | lsgn;
+        let signs = if fs { signs } else { &[] };
+        let packet = [&fields.to_be_bytes()[3..], flags, counts, data, signs].concat();
+        let s = [&[0, 0, 4 * packet.len() as u8, 0, 0, d * 0x55], &packet.repeat(4)[..]].concat();
+        let mut reader = Reader::new(&s, &header, &layout);
+        assert_eq!(reader.precinct(0, true, 0, &layout.packets(0)), Ok(s.len()));
+        let bytes = reader.decoded.bytes;
+        assert_eq!((bytes.markers, bytes.precincts, bytes.packets, bytes.spoilt), (0, 6, 4 * 5, 0));
+        [bytes.significance, bytes.counts, bytes.data, bytes.signs, bytes.filler].map(|total| total / 4)
+    }
+
+    #[test]
+    fn contents_of_no_bytes() {
+        assert_eq!(packet_bytes(true, true, 0, &[], [&[0], &[], &[]]), [0, 1, 0, 0, 0]);
+        assert_eq!(packet_bytes(true, true, 0, &[], [&[0], &[9, 9], &[9; 3]]), [0, 1, 0, 0, 5]);
+        assert_eq!(packet_bytes(true, false, 2, &[0x80], [&[], &[], &[]]), [1, 0, 0, 0, 0]);
+        assert_eq!(packet_bytes(true, false, 2, &[0xff], [&[9; 3], &[9; 2], &[9]]), [1, 0, 0, 0, 6]);
+    }
+
+    /// Codes of one to nine bits, with so many bitplanes that data and signs end in a byte's middle or with it.
+    #[test]
+    fn contents_of_whole_bytes_and_others() {
+        assert_eq!(packet_bytes(true, false, 0, &[], [&[0x80], &[0xf0], &[0]]), [0, 1, 1, 1, 0]);
+        assert_eq!(packet_bytes(true, false, 0, &[], [&[0xfe], &[0; 4], &[]]), [0, 1, 4, 0, 0]);
+        assert_eq!(packet_bytes(true, false, 0, &[], [&[0xfe, 9], &[0; 5], &[9]]), [0, 1, 4, 0, 3]);
+        assert_eq!(packet_bytes(true, false, 0, &[], [&[0xff, 0], &[0; 4], &[]]), [0, 2, 4, 0, 0]);
+        assert_eq!(packet_bytes(true, false, 2, &[0], [&[0xff, 0, 9], &[1; 6], &[1; 2]]), [1, 2, 4, 1, 4]);
+    }
+
+    /// Without sign subpackets a nibble of signs stands in the data, and a length left in their field declares nothing.
+    #[test]
+    fn signs_in_the_data_are_data() {
+        for lsgn in [0, 1, 7] {
+            let signs = &[9; 7][..lsgn];
+            assert_eq!(packet_bytes(false, true, 0, &[], [&[0], &[], signs]), [0, 1, 0, 0, 0]);
+            assert_eq!(packet_bytes(false, true, 0, &[], [&[0x10], &[0xff], signs]), [0, 1, 1, 0, 0]);
+            assert_eq!(packet_bytes(false, true, 0, &[], [&[0x20], &[0xff; 3], signs]), [0, 1, 2, 0, 1]);
         }
     }
 

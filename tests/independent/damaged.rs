@@ -5,42 +5,46 @@
 
 use super::a::Header;
 use super::b::Layout;
+use super::bytes::Bytes;
 use super::c::{self, Decoded, Reader};
 use super::e::{self, Plane};
 use super::Refusal;
 use std::ops::Range;
 
-/// As `c::codestream`, with nothing in it that comes from a lost slice; and which coefficients are lost.
+/// As `c::codestream`, with nothing in it that comes from a lost slice but its bytes; and which coefficients are lost.
 pub fn codestream(s: &[u8], header: &Header, layout: &Layout) -> Result<(Decoded, Vec<Plane<bool>>), Refusal> {
     let mut reader = Reader::new(s, header, layout);
     let mut lost = e::planes(layout);
-    c::each_slice(s, header, layout, |rows, at| {
-        let end = step_over(s, layout, rows.clone(), at, |_, _, _| ())?;
-        let largest_t = reader.decoded.largest_t.clone();
+    let markers = c::each_slice(s, header, layout, |rows, at| {
+        let mut stepped_over = 0;
+        let end = step_over(s, layout, rows.clone(), at, |_, _, precinct| stepped_over += precinct.len())?;
+        let (largest_t, bytes) = (reader.decoded.largest_t.clone(), reader.decoded.bytes);
         if reader.slice(rows.clone(), at).is_err() {
             reader.decoded.largest_t = largest_t;
+            reader.decoded.bytes = Bytes { spoilt: bytes.spoilt + stepped_over, ..bytes };
             e::fill(&mut reader.decoded.planes, layout, rows.clone(), 0);
             e::fill(&mut lost, layout, rows, true);
         }
         Ok(end)
     })?;
+    reader.decoded.bytes.markers = markers;
     Ok((reader.decoded, lost))
 }
 
 /// Goes over the precincts of a slice by their declared lengths, whatever stands in them, and gives the offset behind them.
-/// `precinct` takes the row, the column and the offset of each.
+/// `precinct` takes the row, the column and the bytes of each.
 pub fn step_over(
     s: &[u8],
     layout: &Layout,
     rows: Range<usize>,
     at: usize,
-    mut precinct: impl FnMut(usize, usize, usize),
+    mut precinct: impl FnMut(usize, usize, Range<usize>),
 ) -> Result<usize, Refusal> {
     let mut precincts = rows.flat_map(|row| (0..layout.columns).map(move |column| (row, column)));
     precincts.try_fold(at, |at, (row, column)| {
         let lprc = c::precinct_length(s, at)?;
         let end = c::precinct_body(s, layout, at, lprc)?.end;
-        precinct(row, column, at);
+        precinct(row, column, at..end);
         Ok(end)
     })
 }

@@ -5,6 +5,7 @@
 pub mod a;
 pub mod b;
 mod bits;
+pub mod bytes;
 pub mod c;
 pub mod d;
 pub mod damaged;
@@ -60,6 +61,8 @@ pub struct Page {
     pub components: Vec<Component>,
     /// Whether a bench caption stands before the first slice header.
     pub caption: bool,
+    /// Where the bytes of the stream went.
+    pub bytes: bytes::Bytes,
 }
 
 /// For each component, row by row: whether a sample depends on a lost coefficient.
@@ -116,7 +119,7 @@ fn page(header: &a::Header, layout: &b::Layout, decoded: c::Decoded) -> Page {
         distance,
         samples,
     });
-    Page { components: components.collect(), caption: header.caption }
+    Page { components: components.collect(), caption: header.caption, bytes: decoded.bytes }
 }
 
 /// The samples of each component from its coefficients, multiplied by 2^Fq (Annexes E to G).
@@ -145,6 +148,7 @@ fn transform<V: e::Value>(header: &a::Header, layout: &b::Layout, planes: &mut [
 #[cfg(test)]
 mod tests {
     use super::*;
+    use bytes::Bytes;
 
     /// Streams of C-13 by name, with what the record says of a caption.
     macro_rules! stored {
@@ -177,8 +181,22 @@ mod tests {
         }
     }
 
+    /// Those of a page that is read come to its length; those of a refused one to nothing.
+    #[test]
+    fn bytes_add_up() {
+        for (name, s, _) in STORED {
+            let readings = [read(s, usize::MAX).ok(), read_damaged(s, usize::MAX).ok().map(|(page, _)| page)];
+            for (page, damaged) in readings.iter().zip([false, true]) {
+                let bytes = Bytes::of(page.as_ref());
+                let all: usize = bytes.totals().iter().map(|(_, total)| total).sum();
+                assert_eq!(all, if page.is_some() { s.len() } else { 0 }, "{}", name);
+                assert!(damaged || bytes.spoilt == 0, "{}", name);
+            }
+        }
+    }
+
     /// What the record says of a caption when these extensions, each a type and data, are put into a page that has none:
-    /// behind its picture header, its component table or its weights table. They change nothing else.
+    /// behind its picture header, its component table or its weights table. They change nothing else but the bytes of segments.
     fn told(extensions: &[(u16, &[u8])]) -> [bool; 3] {
         let (_, plain, _) = STORED[5];
         let page = read(plain, usize::MAX).unwrap();
@@ -194,6 +212,8 @@ mod tests {
             s[10..14].copy_from_slice(&lcod.to_be_bytes());
             let changed = read(&s, usize::MAX).unwrap();
             assert_eq!(changed.components, page.components);
+            let markers = page.bytes.markers + s.len() - plain.len();
+            assert_eq!(changed.bytes, Bytes { markers, ..page.bytes });
             changed.caption
         })
     }

@@ -1,16 +1,20 @@
 //! Reads a codestream from standard input and prints what document 01's page program prints.
 //!
-//! Usage: `page [--any] [--damaged] [--distances] [--layout | --pictures NAME | --time N]` or `page [--any] --modes`. `--any` lifts
-//! the page program's limits. `--damaged` loses spoilt slices instead of the page (document 02, C-15) and prints the marks too;
-//! `--distances` also prints the distance at each sample (C-22).
+//! Usage: `page [--any] [--damaged] [--distances] [--layout | --pictures NAME [--bytes] | --time N]`, `page [--any] [--damaged] --bytes`
+//! or `page [--any] --modes`. `--any` lifts the page program's limits. `--damaged` loses spoilt slices instead of the page (document 02,
+//! C-15) and prints the marks too; `--distances` also prints the distance at each sample (C-22). `--bytes` prints behind the page, without
+//! marks, where the bytes of the stream went (C-16), of a refused page too.
 //! Instead of the page, `--layout` prints where the header puts bands, precincts, packets and lines, and `--time` the
 //! shortest time of N readings. `--pictures` writes the samples to files and prints the answer; with `--damaged` it also
-//! writes masks, and prints how much is lost; with `--distances` it also writes those, and prints the largest and how many are 0.
-//! `--modes` takes a letter before the stream: `d` is for `--damaged`, `p` for `--distances` and `q` for both.
+//! writes masks, and prints how much is lost; with `--distances` it also writes those, and prints the largest and how many are 0;
+//! with `--bytes` it prints them last.
+//! `--modes` takes a letter before the stream: `d` is for `--damaged`, `p` for `--distances` and `q` for both, `b` is for `--bytes` and `c`
+//! for `--damaged --bytes`.
 
 mod layout;
 mod pictures;
 
+use independent::bytes::Bytes;
 use independent::{read, read_damaged, read_damaged_places, read_places, text, Distances, Marks, Page, Refusal};
 use std::env;
 use std::io::{self, BufWriter, Read, Write};
@@ -33,7 +37,20 @@ struct Options {
     modes: bool,
     damaged: bool,
     distances: bool,
+    bytes: bool,
     wanted: Wanted,
+}
+
+impl Options {
+    /// Whether bytes are asked for where they are told. The line stands behind pages without marks and distances, and a letter
+    /// says which mode it is for.
+    fn has_place_for_bytes(&self) -> bool {
+        match self.wanted {
+            Wanted::Page => !self.modes && !self.distances,
+            Wanted::Pictures(_) => !self.modes,
+            Wanted::Layout | Wanted::Time(_) => false,
+        }
+    }
 }
 
 fn main() -> ExitCode {
@@ -41,7 +58,8 @@ fn main() -> ExitCode {
         Some(options) => options,
         None => {
             eprintln!(
-                "usage: page [--any] [--modes | [--damaged] [--distances] [--layout | --pictures NAME | --time N]] < STREAM"
+                "usage: page [--any] [--modes | [--damaged] [--distances] [--layout | --pictures NAME [--bytes] | --time N] \
+                 | [--damaged] --bytes] < STREAM"
             );
             return ExitCode::from(2);
         }
@@ -56,7 +74,8 @@ fn main() -> ExitCode {
 }
 
 fn options() -> Option<Options> {
-    let mut options = Options { any: false, modes: false, damaged: false, distances: false, wanted: Wanted::Page };
+    let (any, modes, damaged, distances, bytes) = (false, false, false, false, false);
+    let mut options = Options { any, modes, damaged, distances, bytes, wanted: Wanted::Page };
     let mut words = env::args().skip(1);
     while let Some(word) = words.next() {
         match word.as_str() {
@@ -64,13 +83,14 @@ fn options() -> Option<Options> {
             "--modes" => options.modes = true,
             "--damaged" => options.damaged = true,
             "--distances" => options.distances = true,
+            "--bytes" => options.bytes = true,
             "--layout" => options.wanted = Wanted::Layout,
             "--pictures" => options.wanted = Wanted::Pictures(words.next()?),
             "--time" => options.wanted = Wanted::Time(words.next()?.parse().ok()?),
             _ => return None,
         }
     }
-    Some(options)
+    Some(options).filter(|options| !options.bytes || options.has_place_for_bytes())
 }
 
 fn run(options: Options) -> io::Result<()> {
@@ -82,6 +102,8 @@ fn run(options: Options) -> io::Result<()> {
         Some((b'd', stream)) => answer(&mut out, &Options { damaged: true, ..options }, stream)?,
         Some((b'p', stream)) => answer(&mut out, &Options { distances: true, ..options }, stream)?,
         Some((b'q', stream)) => answer(&mut out, &Options { damaged: true, distances: true, ..options }, stream)?,
+        Some((b'b', stream)) => answer(&mut out, &Options { bytes: true, ..options }, stream)?,
+        Some((b'c', stream)) => answer(&mut out, &Options { damaged: true, bytes: true, ..options }, stream)?,
         _ => writeln!(out, "unknown mode")?,
     }
     out.flush()
@@ -92,9 +114,17 @@ fn answer(out: &mut impl Write, options: &Options, stream: &[u8]) -> io::Result<
     let reading = || reading(options, stream, room);
     match &options.wanted {
         _ if !options.any && stream.len() > MAX_BYTES => writeln!(out, "input too long"),
-        Wanted::Page => print_page(out, reading(), stream.len()),
+        Wanted::Page if options.bytes => print_page_and_bytes(out, &reading(), stream.len()),
+        Wanted::Page => print_page(out, &reading(), stream.len()),
         Wanted::Layout => layout::print(out, stream),
-        Wanted::Pictures(name) => write_pictures(out, name, reading(), stream.len()),
+        Wanted::Pictures(name) => {
+            let reading = reading();
+            write_pictures(out, name, &reading, stream.len())?;
+            if options.bytes {
+                print_bytes(out, &reading)?;
+            }
+            Ok(())
+        }
         Wanted::Time(readings) => print_time(out, *readings, || reading().is_ok()),
     }
 }
@@ -122,21 +152,33 @@ fn reading(options: &Options, stream: &[u8], room: usize) -> Result<Reading, Ref
     Ok(Reading { page, marks, distances })
 }
 
-fn print_page(out: &mut impl Write, reading: Result<Reading, Refusal>, length: usize) -> io::Result<()> {
+fn print_page(out: &mut impl Write, reading: &Result<Reading, Refusal>, length: usize) -> io::Result<()> {
     match reading {
         Ok(Reading { page, marks, distances }) => {
-            text::page(out, &page, length)?;
-            text::marks(out, &page, &marks)?;
-            text::distances(out, &page, &distances)
+            text::page(out, page, length)?;
+            text::marks(out, page, marks)?;
+            text::distances(out, page, distances)
         }
-        Err(refusal) => text::refusal(out, refusal),
+        Err(refusal) => text::refusal(out, *refusal),
     }
+}
+
+fn print_page_and_bytes(out: &mut impl Write, reading: &Result<Reading, Refusal>, length: usize) -> io::Result<()> {
+    match reading {
+        Ok(reading) => text::page(out, &reading.page, length)?,
+        Err(refusal) => text::refusal(out, *refusal)?,
+    }
+    print_bytes(out, reading)
+}
+
+fn print_bytes(out: &mut impl Write, reading: &Result<Reading, Refusal>) -> io::Result<()> {
+    text::bytes(out, &Bytes::of(reading.as_ref().ok().map(|reading| &reading.page)))
 }
 
 fn write_pictures(
     out: &mut impl Write,
     name: &str,
-    reading: Result<Reading, Refusal>,
+    reading: &Result<Reading, Refusal>,
     length: usize,
 ) -> io::Result<()> {
     match reading {
@@ -145,9 +187,9 @@ fn write_pictures(
             pictures::write_masks(name, &reading.page, &reading.marks)?;
             pictures::write_distances(name, &reading.page, &reading.distances)?;
             text::success(out, length)?;
-            (0..reading.page.components.len()).try_for_each(|i| print_sums(out, i, &reading))
+            (0..reading.page.components.len()).try_for_each(|i| print_sums(out, i, reading))
         }
-        Err(refusal) => text::refusal(out, refusal),
+        Err(refusal) => text::refusal(out, *refusal),
     }
 }
 

@@ -20,8 +20,8 @@ pub fn distances(s: &[u8]) -> Result<Distances, Refusal> {
 fn numbers(s: &[u8], header: &Header, layout: &Layout) -> Result<Vec<Plane<Number>>, Refusal> {
     let mut numbers = e::planes(layout);
     c::each_slice(s, header, layout, |rows, at| {
-        step_over(s, layout, rows, at, |row, column, at| {
-            let t = c::truncations(s, header, layout, at);
+        step_over(s, layout, rows, at, |row, column, precinct| {
+            let t = c::truncations(s, header, layout, precinct.start);
             e::fill_precinct(&mut numbers, layout, row, column, |band| distance::band_number(t[band], header.fq));
         })
     })?;

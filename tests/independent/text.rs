@@ -1,5 +1,6 @@
-//! What the page program prints (document 01), and what it prints of marks and distances (document 02, C-15 and C-22).
+//! What the page program prints (document 01), and what it prints of marks, distances and bytes (document 02, C-15, C-22 and C-16).
 
+use super::bytes::Bytes;
 use super::{Distances, Marks, Page, Refusal};
 use std::io::{self, Write};
 
@@ -53,4 +54,13 @@ pub fn distances(out: &mut impl Write, page: &Page, distances: &Distances) -> io
         numbers(out, distances, component.width)?;
     }
     Ok(())
+}
+
+/// Where the bytes of a stream went, in one line.
+pub fn bytes(out: &mut impl Write, bytes: &Bytes) -> io::Result<()> {
+    write!(out, "bytes")?;
+    for (name, total) in bytes.totals() {
+        write!(out, " {name} {total}")?;
+    }
+    writeln!(out)
 }

@@ -4,7 +4,7 @@ use crate::damage::mend_length;
 use crate::rng::Rng;
 use crate::setting;
 use crate::stream::{Field, Stream};
-use crate::write::{self, Manner, Source, Steps};
+use crate::write::{self, Manner, Source, Steps, SOME_FILLER};
 use independent::b::Layout;
 use std::ops::Range;
 
@@ -29,7 +29,7 @@ fn page(n: usize) -> Stream {
     let header = setting::bounded(n);
     let layout = Layout::new(&header);
     let pages = (0..).map(|seed| {
-        let manner = Manner { steps: Steps::UpTo(3), varied: true };
+        let manner = Manner { steps: Steps::UpTo(3), varied: true, filler: SOME_FILLER };
         write::stream(&mut Rng::new(seed), &header, &layout, manner, &Source::Syntax)
     });
     let has = |stream: &Stream, marker| head(stream).iter().any(|segment| stream.bytes[segment.start + 1] == marker);

@@ -6,6 +6,7 @@ pub mod setting;
 
 mod bounds;
 mod coarse;
+mod counted;
 mod damage;
 mod forward;
 mod leftover;
@@ -15,12 +16,14 @@ mod spoilt;
 mod stream;
 mod write;
 
+pub use counted::Counted;
+
 use independent::a::Header;
 use independent::b::Layout;
 use rng::Rng;
 use setting::Limits;
-use stream::Stream;
-use write::{Manner, Source, Steps};
+use stream::{Content, Stream};
+use write::{Filler, Manner, Source, Steps, SOME_FILLER};
 
 #[derive(Clone, Copy, Debug, PartialEq, Eq)]
 pub enum Kind {
@@ -32,6 +35,8 @@ pub enum Kind {
     Coefficients,
     /// Encoded pictures and coefficients, coarse in a part of the page alone.
     Coarse,
+    /// Streams of the first three kinds with much filler, in all subpackets or in those of one or two kinds.
+    Filled,
     /// Spoilt streams.
     Damaged,
     /// Pages of which slices are spoilt.
@@ -48,11 +53,12 @@ pub enum Kind {
     Header,
 }
 
-pub const KINDS: [(&str, Kind); 11] = [
+pub const KINDS: [(&str, Kind); 12] = [
     ("syntax", Kind::Syntax),
     ("picture", Kind::Picture),
     ("coefficients", Kind::Coefficients),
     ("coarse", Kind::Coarse),
+    ("filled", Kind::Filled),
     ("damaged", Kind::Damaged),
     ("spoilt", Kind::Spoilt),
     ("apart", Kind::Apart),
@@ -70,51 +76,56 @@ pub struct Made {
     pub sound: bool,
     /// For encoded coefficients: the samples that they give without quantization, by component.
     pub exact: Option<Vec<Vec<u16>>>,
+    /// Of a sound stream where its bytes went, and of one set apart where they go once its slice is lost.
+    pub counted: Option<Counted>,
 }
 
 /// Makes a stream.
 pub fn make(kind: Kind, seed: u64, limits: Limits) -> Made {
     let mut rng = Rng::new(seed);
-    let (name, bytes, exact) = match kind {
-        Kind::Bounds => {
-            let (what, bytes) = bounds::change(seed as usize);
-            (format!("bounds-{}-{}", seed, what), bytes, None)
+    let name = format!("{:?}-{}", kind, seed).to_lowercase();
+    let (stream, exact) = match kind {
+        Kind::Syntax | Kind::Picture | Kind::Coefficients | Kind::Coarse | Kind::Filled => {
+            sound(&mut rng, kind, limits)
         }
-        Kind::Foreign => {
-            let (what, bytes) = damage::foreign(&mut rng);
-            (format!("foreign-{}-{}", seed, what), bytes, None)
+        Kind::Apart | Kind::Twin => in_slices(&mut rng, limits),
+        _ => {
+            let (what, bytes) = unsound(&mut rng, kind, seed, limits);
+            let name = if what.is_empty() { name } else { format!("{}-{}", name, what) };
+            return Made { name, bytes, sound: false, exact: None, counted: None };
         }
-        Kind::Header => {
-            let header = setting::chosen(seed as usize);
-            (format!("header-{}", seed), write::header(&mut rng, &header).bytes, None)
+    };
+    if kind == Kind::Apart {
+        return made_apart(&mut rng, name, stream, exact);
+    }
+    let counted = Some(stream.counted());
+    Made { name, bytes: stream.bytes, sound: true, exact, counted }
+}
+
+/// A stream of a kind that has sound ones only by chance, and what was done to it.
+fn unsound(rng: &mut Rng, kind: Kind, seed: u64, limits: Limits) -> (String, Vec<u8>) {
+    let (what, bytes) = match kind {
+        Kind::Spoilt => {
+            let (stream, _) = in_slices(rng, limits);
+            return spoilt::spoil(rng, stream);
         }
         Kind::Damaged => {
             let base = rng.pick(&[Kind::Syntax, Kind::Picture]);
-            let (stream, _) = sound(&mut rng, base, limits);
-            let (what, bytes) = damage::spoil(&mut rng, stream);
-            (format!("damaged-{}-{}", seed, what), bytes, None)
+            let (stream, _) = sound(rng, base, limits);
+            damage::spoil(rng, stream)
         }
-        Kind::Spoilt => {
-            let (stream, _) = in_slices(&mut rng, limits);
-            let (what, bytes) = spoilt::spoil(&mut rng, stream);
-            (format!("spoilt-{}-{}", seed, what), bytes, None)
-        }
-        Kind::Apart => {
-            let (mut stream, exact) = in_slices(&mut rng, limits);
-            let what = spoilt::set_apart(&mut rng, &mut stream);
-            (format!("apart-{}-{}", seed, what), stream.bytes, exact)
-        }
-        Kind::Twin => {
-            let (stream, exact) = in_slices(&mut rng, limits);
-            (format!("twin-{}", seed), stream.bytes, exact)
-        }
-        _ => {
-            let (stream, exact) = sound(&mut rng, kind, limits);
-            (format!("{:?}-{}", kind, seed).to_lowercase(), stream.bytes, exact)
-        }
+        Kind::Bounds => bounds::change(seed as usize),
+        Kind::Foreign => damage::foreign(rng),
+        _ => ("", write::header(rng, &setting::chosen(seed as usize)).bytes),
     };
-    let sound = matches!(kind, Kind::Syntax | Kind::Picture | Kind::Coefficients | Kind::Coarse | Kind::Twin);
-    Made { name, bytes, sound, exact }
+    (String::from(what), bytes)
+}
+
+/// A sound stream with one slice spoilt.
+fn made_apart(rng: &mut Rng, name: String, mut stream: Stream, exact: Option<Vec<Vec<u16>>>) -> Made {
+    let (what, slice) = spoilt::set_apart(rng, &mut stream);
+    let counted = Some(stream.counted_without(slice));
+    Made { name: format!("{}-{}", name, what), bytes: stream.bytes, sound: false, exact, counted }
 }
 
 /// A sound stream, mostly one of several slices.
@@ -146,7 +157,7 @@ pub fn measured(header: &Header, q: Q, seed: u64) -> Vec<u8> {
         Q::UpTo(most) => Steps::UpTo(most),
         Q::InCorner(coarse) => coarse::corner(&layout, coarse),
     };
-    write::stream(&mut rng, header, &layout, Manner { steps, varied: false }, &source).bytes
+    write::stream(&mut rng, header, &layout, Manner { steps, varied: false, filler: SOME_FILLER }, &source).bytes
 }
 
 /// A sound stream, and the samples of its coefficients where it encodes some.
@@ -158,6 +169,10 @@ fn sound(rng: &mut Rng, kind: Kind, limits: Limits) -> (Stream, Option<Vec<Vec<u
         if kind == Kind::Coarse && !coarse::suits(&header, &layout, coloured) {
             continue;
         }
+        let (kind, filler) = match kind {
+            Kind::Filled => (rng.pick(&[Kind::Syntax, Kind::Picture, Kind::Coefficients]), much_filler(rng)),
+            _ => (kind, SOME_FILLER),
+        };
         let bands = match kind {
             Kind::Syntax => None,
             Kind::Coefficients => Some(coefficients(rng, &header, &layout)),
@@ -173,7 +188,7 @@ fn sound(rng: &mut Rng, kind: Kind, limits: Limits) -> (Stream, Option<Vec<Vec<u
             Kind::Coarse => coarse::steps(rng, &header, &layout),
             _ => Steps::UpTo(rng.pick(&[0, 0, 3, 8, 31])),
         };
-        let mut stream = write::stream(rng, &header, &layout, Manner { steps, varied: true }, &source);
+        let mut stream = write::stream(rng, &header, &layout, Manner { steps, varied: true, filler }, &source);
         if stream.bytes.len() <= limits.bytes {
             if !header.fs {
                 leftover::leave(&mut rng.aside(), &mut stream);
@@ -181,6 +196,14 @@ fn sound(rng: &mut Rng, kind: Kind, limits: Limits) -> (Stream, Option<Vec<Vec<u
             return (stream, exact);
         }
     }
+}
+
+/// Filler in some kinds of subpackets or all, in some of these subpackets or all, and mostly more than a few bytes.
+fn much_filler(rng: &mut Rng) -> Filler {
+    use Content::{Counts, Data, Signs};
+    const KINDS: [&[Content]; 7] =
+        [&[Counts], &[Data], &[Signs], &[Counts, Data], &[Counts, Signs], &[Data, Signs], &[Counts, Data, Signs]];
+    Filler { inside: rng.pick(&KINDS), once_in: rng.pick(&[1, 1, 2, 4]), most: rng.pick(&[1, 2, 9, 60, 300]) }
 }
 
 /// Coefficients of any size, some of them the largest.
@@ -221,7 +244,7 @@ mod tests {
 
     #[test]
     fn sound_streams_are_read_and_samples_are_within_their_distance() {
-        for kind in [Kind::Syntax, Kind::Picture, Kind::Coefficients, Kind::Coarse] {
+        for kind in [Kind::Syntax, Kind::Picture, Kind::Coefficients, Kind::Coarse, Kind::Filled] {
             for seed in 0..300 {
                 let made = make(kind, seed, SMALL);
                 let page = independent::read(&made.bytes, SMALL.samples).expect(&made.name);
@@ -242,8 +265,8 @@ mod tests {
             let layout = Layout::new(&header);
             let picture = picture::random(&mut rng, &header, &layout);
             let source = Source::Coefficients(forward::coefficients(&header, &layout, &picture));
-            let stream =
-                write::stream(&mut rng, &header, &layout, Manner { steps: Steps::UpTo(0), varied: true }, &source);
+            let manner = Manner { steps: Steps::UpTo(0), varied: true, filler: SOME_FILLER };
+            let stream = write::stream(&mut rng, &header, &layout, manner, &source);
             let page = independent::read(&stream.bytes, SMALL.samples).unwrap();
             assert!(page.components.iter().all(|component| component.distance == 0));
             if header.fq == 0 {

@@ -129,6 +129,7 @@ fn fields(rng: &mut Rng, limits: Limits) -> Header {
         wgt: Vec::new(),
         caption: false,
         first_slice: 0,
+        markers: 0,
     }
 }
 

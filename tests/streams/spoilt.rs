@@ -62,11 +62,11 @@ pub fn spoil(rng: &mut Rng, mut stream: Stream) -> (String, Vec<u8>) {
     (names.join("-"), stream.bytes)
 }
 
-/// Spoils one slice of a stream outside its precincts' lengths. Says how.
-pub fn set_apart(rng: &mut Rng, stream: &mut Stream) -> &'static str {
+/// Spoils one slice of a stream outside its precincts' lengths. Says how, and which.
+pub fn set_apart(rng: &mut Rng, stream: &mut Stream) -> (&'static str, usize) {
     let slices = stream.slices();
-    let slice = &slices[rng.below(slices.len())];
-    spoil_slice(rng, stream, slice, &WITHIN)
+    let slice = rng.below(slices.len());
+    (spoil_slice(rng, stream, &slices[slice], &WITHIN), slice)
 }
 
 fn spoil_slice(rng: &mut Rng, stream: &mut Stream, slice: &Range<usize>, ways: &[(&'static str, Way)]) -> &'static str {

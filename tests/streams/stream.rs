@@ -1,5 +1,6 @@
-//! Streams in the making: bits, fields, segments, and notes on where they stand.
+//! Streams in the making: bits, fields, segments, and notes on where they stand and how many bytes they take.
 
+use crate::counted::Counted;
 use crate::rng::Rng;
 use std::ops::Range;
 
@@ -10,9 +11,22 @@ pub struct Stream {
     /// Marker segments with their markers.
     pub segments: Vec<Range<usize>>,
     pub subpackets: Vec<Subpacket>,
+    /// Where the bytes went: those before the first slice, those of each slice with its header, those behind the last.
+    parts: Vec<Counted>,
 }
 
 impl Stream {
+    /// Where all bytes went.
+    pub fn counted(&self) -> Counted {
+        self.parts.iter().copied().sum()
+    }
+
+    /// Where all bytes go once a slice is lost.
+    pub fn counted_without(&self, slice: usize) -> Counted {
+        let parts = self.parts.iter().enumerate();
+        parts.map(|(n, part)| if n == 1 + slice { part.lost() } else { *part }).sum()
+    }
+
     pub fn subpackets_of(&self, content: Content) -> Vec<&Subpacket> {
         self.subpackets.iter().filter(|subpacket| subpacket.content == content).collect()
     }
@@ -33,6 +47,7 @@ impl Stream {
             fields: fields.copied().collect(),
             segments: Vec::new(),
             subpackets: subpackets.cloned().collect(),
+            parts: Vec::new(),
         }
     }
 }
@@ -50,6 +65,9 @@ pub enum Content {
 pub struct Subpacket {
     pub bytes: Range<usize>,
     pub content: Content,
+    /// How many of its bytes hold something, and how many stand behind those.
+    pub held: usize,
+    pub filler: usize,
     /// Its length field, that of its precinct, and the raw flag of its packet.
     pub length: Field,
     pub precinct: Field,
@@ -120,12 +138,33 @@ pub struct Draft {
     pub bits: Bits,
     fields: Vec<Field>,
     segments: Vec<Range<usize>>,
-    pub subpackets: Vec<Subpacket>,
+    subpackets: Vec<Subpacket>,
+    /// The bytes of the parts that are begun.
+    parts: Vec<Counted>,
 }
 
 impl Draft {
+    /// Begins the part before the first slice, a slice, or the part behind the last: its bytes are counted apart.
+    pub fn begin_part(&mut self) {
+        self.parts.push(Counted::default());
+    }
+
+    /// Counts bytes that are written to the part begun last.
+    pub fn count(&mut self, bytes: Counted) {
+        let part = self.parts.last_mut().expect("a part is begun");
+        *part = *part + bytes;
+    }
+
     pub fn length(&self) -> usize {
         self.bits.bytes.len()
+    }
+
+    /// Notes a subpacket that is written, and counts its bytes.
+    pub fn note(&mut self, subpacket: Subpacket) {
+        let held = |content| if subpacket.content == content { subpacket.held } else { 0 };
+        let [counts, data, signs] = [Content::Counts, Content::Data, Content::Signs].map(held);
+        self.count(Counted { counts, data, signs, filler: subpacket.filler, ..Counted::default() });
+        self.subpackets.push(subpacket);
     }
 
     /// Writes a field.
@@ -144,6 +183,7 @@ impl Draft {
     pub fn marker(&mut self, marker: u64) {
         self.segments.push(self.length()..self.length() + 2);
         self.field(marker, 16);
+        self.count(Counted { markers: 2, ..Counted::default() });
     }
 
     /// Writes a marker segment; the length is found from its fields.
@@ -151,6 +191,7 @@ impl Draft {
         let length = 2 + fields.iter().map(|field| field.1 as usize).sum::<usize>() / 8;
         self.segments.push(self.length()..self.length() + 2 + length);
         self.put(&[(marker, 16), (length as u64, 16)]);
+        self.count(Counted { markers: 2 + length, ..Counted::default() });
         self.put(fields)
     }
 
@@ -158,6 +199,7 @@ impl Draft {
     pub fn finish(mut self, lcod: Field) -> Stream {
         let length = self.length() as u64;
         lcod.set(&mut self.bits.bytes, length);
-        Stream { bytes: self.bits.bytes, fields: self.fields, segments: self.segments, subpackets: self.subpackets }
+        let Draft { bits, fields, segments, subpackets, parts } = self;
+        Stream { bytes: bits.bytes, fields, segments, subpackets, parts }
     }
 }

@@ -1,5 +1,6 @@
 //! Writes codestreams (Annexes A to C).
 
+use crate::counted::Counted;
 use crate::forward;
 use crate::rng::Rng;
 use crate::stream::{Bits, Content, Draft, Field, Stream, Subpacket};
@@ -22,16 +23,34 @@ pub enum Steps {
     Each(Vec<usize>),
 }
 
+/// How much filler stands behind what count, data and sign subpackets hold.
+#[derive(Clone, Copy)]
+pub struct Filler {
+    /// The kinds of subpackets that have any.
+    pub inside: &'static [Content],
+    /// One subpacket in so many has some.
+    pub once_in: usize,
+    /// The most bytes of it.
+    pub most: usize,
+}
+
+/// What a stream mostly has of it.
+pub const SOME_FILLER: Filler =
+    Filler { inside: &[Content::Counts, Content::Data, Content::Signs], once_in: 8, most: 3 };
+
 /// How freely a stream is written.
 pub struct Manner {
     pub steps: Steps,
     /// Whether modes, filler, padding and optional segments vary; else all is as plain as can be.
     pub varied: bool,
+    /// The filler of a stream that varies.
+    pub filler: Filler,
 }
 
 /// Writes a whole stream.
 pub fn stream(rng: &mut Rng, header: &Header, layout: &Layout, manner: Manner, source: &Source) -> Stream {
     let mut draft = Draft::default();
+    draft.begin_part();
     let lcod = write_header(&mut draft, rng, header, manner.varied);
     let mut writer = Writer {
         rng,
@@ -44,6 +63,7 @@ pub fn stream(rng: &mut Rng, header: &Header, layout: &Layout, manner: Manner, s
         line_t: vec![vec![0; layout.columns]; layout.bands.len()],
     };
     for (t, rows) in layout.slices().enumerate() {
+        writer.draft.begin_part();
         writer.draft.segment(0xff20, &[(t as u64, 16)]);
         for row in rows.clone() {
             let packets = layout.packets(row);
@@ -53,6 +73,7 @@ pub fn stream(rng: &mut Rng, header: &Header, layout: &Layout, manner: Manner, s
         }
     }
     let mut draft = writer.draft;
+    draft.begin_part();
     draft.marker(0xff11);
     draft.finish(lcod)
 }
@@ -60,6 +81,7 @@ pub fn stream(rng: &mut Rng, header: &Header, layout: &Layout, manner: Manner, s
 /// Writes a stream that ends with its first slice header.
 pub fn header(rng: &mut Rng, header: &Header) -> Stream {
     let mut draft = Draft::default();
+    draft.begin_part();
     let lcod = write_header(&mut draft, rng, header, false);
     draft.segment(0xff20, &[(0, 16)]);
     draft.finish(lcod)
@@ -142,6 +164,14 @@ struct Coding {
     t: u32,
 }
 
+/// A subpacket as it is written: its bytes, how many hold something, and how many stand behind those.
+#[derive(Default)]
+struct Filled {
+    bytes: Vec<u8>,
+    held: usize,
+    filler: usize,
+}
+
 /// The subpackets of a packet while they grow.
 #[derive(Default)]
 struct Body {
@@ -170,9 +200,11 @@ impl Writer<'_> {
             Steps::Each(steps) => steps[row * self.layout.columns + column],
         };
         let r = if self.manner.varied { self.rng.below(2 * self.layout.bands.len()) } else { 0 };
+        let start = self.draft.length();
         let length = self.draft.put(&[(0, 24), (q as u64, 8), (r as u64, 8)])[0];
         let codings = self.modes(top, q, r);
         let body = self.draft.length();
+        self.draft.count(Counted { precincts: body - start, ..Counted::default() });
         let mut raw = vec![None; self.layout.filters.len()];
         for lines in packets {
             let beta = lines[0].band / self.header.nc;
@@ -207,33 +239,42 @@ impl Writer<'_> {
             self.line(line, column, raw, codings[line.band], &mut body);
         }
         body.flags.pad(self.rng);
-        let counts = self.filled(body.counts);
-        let data = self.filled(body.data);
-        let signs = if self.header.fs { self.filled(body.signs) } else { Vec::new() };
-        let long = self.header.lh || self.header.wf * self.header.nc >= 32_752;
-        let widths = if long { [20, 20, 15] } else { [15, 13, 11] };
-        let lengths = [data.len(), counts.len(), signs.len()].map(|length| length as u64);
-        let fields = [(u64::from(raw), 1), (lengths[0], widths[0]), (lengths[1], widths[1]), (lengths[2], widths[2])];
-        let head = self.draft.put(&fields);
+        let counts = self.filled(body.counts, Content::Counts);
+        let data = self.filled(body.data, Content::Data);
+        let signs = if self.header.fs { self.filled(body.signs, Content::Signs) } else { Filled::default() };
+        let head = self.packet_header(raw, [&data, &counts, &signs].map(|subpacket| subpacket.bytes.len() as u64));
+        self.draft.count(Counted { significance: body.flags.bytes.len(), ..Counted::default() });
         self.draft.bits.bytes.extend(body.flags.bytes);
         let subpackets =
             [(counts, head[2], Content::Counts), (data, head[1], Content::Data), (signs, head[3], Content::Signs)];
-        for (bytes, length, content) in subpackets {
+        for (Filled { bytes, held, filler }, length, content) in subpackets {
             let start = self.draft.length();
             self.draft.bits.bytes.extend(bytes);
             let bytes = start..self.draft.length();
-            self.draft.subpackets.push(Subpacket { bytes, content, length, precinct, raw: head[0] });
+            self.draft.note(Subpacket { bytes, content, held, filler, length, precinct, raw: head[0] });
         }
     }
 
+    /// Writes a packet header, with the lengths of data, counts and signs, and gives its fields.
+    fn packet_header(&mut self, raw: bool, [ldat, lcnt, lsgn]: [u64; 3]) -> Vec<Field> {
+        let long = self.header.lh || self.header.wf * self.header.nc >= 32_752;
+        let widths = if long { [20, 20, 15] } else { [15, 13, 11] };
+        let start = self.draft.length();
+        let head = self.draft.put(&[(u64::from(raw), 1), (ldat, widths[0]), (lcnt, widths[1]), (lsgn, widths[2])]);
+        self.draft.count(Counted { packets: self.draft.length() - start, ..Counted::default() });
+        head
+    }
+
     /// A subpacket's bytes, some with filler behind.
-    fn filled(&mut self, mut bits: Bits) -> Vec<u8> {
+    fn filled(&mut self, mut bits: Bits, content: Content) -> Filled {
         bits.pad(self.rng);
-        if self.manner.varied && self.rng.once_in(8) {
-            let filler = self.rng.between(1, 3);
+        let Filler { inside, once_in, most } = self.manner.filler;
+        let (held, mut filler) = (bits.bytes.len(), 0);
+        if self.manner.varied && inside.contains(&content) && self.rng.once_in(once_in) {
+            filler = self.rng.between(1, most);
             bits.bytes.extend(self.rng.bytes(filler));
         }
-        bits.bytes
+        Filled { bytes: bits.bytes, held, filler }
     }
 
     /// Codes one line, a significance group at a time.

@@ -7,5 +7,6 @@ pub mod Turns
 pub mod Reaching
 pub mod Laws
 pub mod Walked
+pub mod Pieces
 pub mod Kept
 pub mod Apart

@@ -52,7 +52,7 @@ behind-place s c t to x w = by (precinctsOf s c t x) refl
 
 -- ---- the slices of a damaged page whose walk is accepted
 
-over-stops : (s : List ℕ) (c : Setting) (t : ℕ) (x : State) (w : Verdict × ℕ) (r : Left) → steppedOver s c t x w ≡ stop r → r .0 ≡ Fine → ⊥
+pub over-stops : (s : List ℕ) (c : Setting) (t : ℕ) (x : State) (w : Verdict × ℕ) (r : Left) → steppedOver s c t x w ≡ stop r → r .0 ≡ Fine → ⊥
 over-stops s c t x (Fine, to) r e f = go-stop e
 over-stops s c t x (Refused k, at) r e f = clash (ap (λ (l : Left). l .0) (stop-same e) ∙ f)
 

@@ -1,24 +1,49 @@
 -- What the steps of the slices' loop answer.
-use mathlib.Core.List.{List}
+use mathlib.Core.List.{List, [], _∷_}
 use mathlib.Core.Logic.{_↔_}
 use mathlib.Core.Path.{_≡_}
-use Prim.Native.Nat.{ℕ, _+_, _≤_, _<_}
+use Prim.Native.Nat.{ℕ, _+_, _-_, _≤_, _<_}
 use lib.IntN.{ℤ, pos, negsuc}
 use lib.ListN.{length}
 use Rattle.whole.specs.Cells.{cell}
-use Rattle.rows.specs.declared.Verdict.the-variants.{Fine}
+use Rattle.rows.specs.Rows.{first}
+use Rattle.rows.specs.declared.Verdict.{Verdict}
+use Rattle.rows.specs.declared.Verdict.the-variants.{Fine, Refused}
+use Rattle.pieces.specs.Pieces.{Piece, Markers, Spoilt, bytesOf, bytesBy, plus}
+use Rattle.pieces.specs.declared.Bytes.{Bytes}
 use Rattle.layout.specs.declared.Shape.{Shape}
 use Rattle.layout.specs.Bands.{Hc}
 use Rattle.layout.specs.Cells.{area, start}
 use Rattle.layout.specs.Slices.{slice-of-row}
-use Rattle.slices.specs.Slice.{State}
+use Rattle.slices.specs.Slice.{State, Left, sliceHeaderBytes}
+use Rattle.slices.specs.Stream.{endChecks}
+use Rattle.slices.specs.Pieces.{endPieces}
 use Rattle.slices.specs.declared.Reading.{Reading}
 use Rattle.damage.specs.declared.lost.Rows.{Rows}
 
--- a reading that goes on from a state
-pub record Onward (x : State) (r : Reading) (cells′ : List ℤ) : Type 0 where
+-- a reading that goes on from a state, and where the bytes went of what is behind it
+pub record Onward (x : State) (b : Bytes) (r : Reading) (cells′ : List ℤ) : Type 0 where
   pub fine : r .verdict ≡ Fine
   pub is : x ≡ (r .at, r .tops, cells′)
+  pub bytes : r .bytes ≡ b
+
+-- behind slice t, whose precincts have a verdict: the bytes of a slice that is read or, where one of them is refused, of one whose precincts stand from a place
+-- on, and before another
+abbrev pub behindBytes : Verdict → ℕ → ℕ → Bytes → Bytes
+behindBytes Fine from to bytes = bytes
+behindBytes (Refused k) from to bytes = bytesOf ((Markers, sliceHeaderBytes) ∷ (Spoilt, to - from) ∷ [])
+
+-- behind the last slice
+pub record IsEnd (s : List ℕ) (place : ℕ) (most : List ℕ) (b : Bytes) (r : Reading) : Type 0 where
+  pub verdict : r .verdict ≡ first (endChecks s place)
+  pub at : r .at ≡ place + 2
+  pub tops : r .tops ≡ most
+  pub bytes : r .bytes ≡ bytesBy (r .verdict) (plus b (bytesOf endPieces))
+
+-- all slices, and the end of the stream
+pub record Streamed (left : Left) (has : List Piece) (r : Reading) (cells′ : List ℤ) : Type 0 where
+  pub is : left ≡ (r .verdict, (r .at, r .tops, cells′))
+  pub bytes : r .bytes ≡ bytesBy (r .verdict) (bytesOf has)
 
 -- ---- the cells
 

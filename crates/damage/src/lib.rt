@@ -5,44 +5,53 @@ pub mod lost;
 use crate::lost::lose;
 use layout::precincts::slice_count;
 use packets::Setting;
+use pieces::Bytes;
+use pieces::NOTHING;
 use rows::Verdict;
 use slices::Reading;
 use slices::all_precincts;
 use slices::end_row;
+use slices::stopped;
 use slices::walk::walk_slice;
+use slices::with_header;
 ghost use mathlib.Core.Path.{_≡_};
-ghost use Prim.Native.Nat.{_+_, _≤_, _<_};
+ghost use Prim.Native.Nat.{_≤_, _<_, _^_};
 ghost use lib.ListN.{length};
-ghost use Rattle.rows.specs.declared.Verdict.the-variants.{Fine};
+ghost use Rattle.pieces.specs.Pieces.{all};
 ghost use Rattle.layout.specs.Built.{Built};
 ghost use Rattle.layout.specs.Cells.{start};
 ghost use Rattle.layout.specs.Precincts.{slices};
-ghost use Rattle.slices.specs.Slice.{sliceHeaderBytes};
+ghost use Rattle.slices.specs.Walk.{walkSlice};
 ghost use Rattle.slices.specs.Steps.{Lent, Turned};
 ghost use Rattle.damage.specs.Stream.{behindSlice, steppedOver, damagedTurn, turnBy, streamBy};
-ghost use Rattle.damage.specs.Steps.{Onward};
+ghost use Rattle.damage.specs.Pieces.{damagedPieces, piecesBy, streamPiecesBy};
+ghost use Rattle.damage.specs.Steps.{Onward, behindBytes, IsEnd, Streamed};
 
-// Behind the precincts of slice t, which leave r. `to` is where their declared lengths lead, and `tops` are the bands' largest T of the slices before.
+// Behind slice t, whose precincts stand from `from` on and leave r. `to` is where their declared lengths lead, and `tops` are the bands' largest T of the slices
+// before.
 fn behind_slice(
     r: Reading,
     cells: &mut [i64],
     c: Setting,
     t: usize,
+    from: usize,
     to: usize,
     tops: [usize; 40],
 ) -> Reading
-    requires { ⌜ Built (c .shape) × (t < slices (c .shape)) × (start (c .shape) (c .shape .nc) ≤ length (now cells)) ⌝ }
-    ensures { λ q. ⌜ Onward (behindSlice c t to tops (r .verdict, (r .at, r .tops, now (cells .entry)))) q (now (cells .exit)) ⌝ }
+    requires { ⌜ Built (c .shape) × (t < slices (c .shape)) × (start (c .shape) (c .shape .nc) ≤ length (now cells)) × (from ≤ to) × (to < 2 ^ 32) ⌝ }
+    ensures { λ q. ⌜ Onward (behindSlice c t to tops (r .verdict, (r .at, r .tops, now (cells .entry)))) (behindBytes (r .verdict) from to (r .bytes)) q (now (cells .exit)) ⌝ }
 {
     let v = r.verdict;
     match v {
         Verdict::Fine => r,
         Verdict::Refused(_) => {
             lose(cells, c.shape, t);
+            let header = Bytes::of_markers(6);
             Reading {
                 verdict: Verdict::Fine,
                 at: to,
                 tops: tops,
+                bytes: header.and(Bytes::of_spoilt(to - from)),
             }
         }
     }
@@ -59,19 +68,16 @@ fn stepped_over(
     to: usize,
     tops: [usize; 40],
 ) -> Reading
-    requires { ⌜ Lent (now s) c at (length (now cells)) × (t < slices (c .shape)) × (v ≡ Fine → at + sliceHeaderBytes ≤ to) × (v ≡ Fine → to ≤ length (now s)) ⌝ }
-    ensures { λ r. ⌜ Turned (now (s .entry)) (steppedOver (now (s .entry)) c t (at, tops, now (cells .entry)) (v, to)) r (now (cells .exit)) ⌝ }
+    requires { ⌜ Lent (now s) c at (length (now cells)) × (t < slices (c .shape)) × (walkSlice (now s) c t at ≡ (v, to)) ⌝ }
+    ensures { λ r. ⌜ Turned (now (s .entry)) (steppedOver (now (s .entry)) c t (at, tops, now (cells .entry)) (v, to)) (damagedPieces (now (s .entry)) c t (at, tops, now (cells .entry))) r (now (cells .exit)) ⌝ }
 {
     match v {
         Verdict::Fine => {
-            let r = all_precincts(s, cells, c, t, at + 6, tops);
-            behind_slice(r, cells, c, t, to, tops)
+            let from = at + 6;
+            let r = with_header(all_precincts(s, cells, c, t, from, tops));
+            behind_slice(r, cells, c, t, from, to, tops)
         }
-        Verdict::Refused(_) => Reading {
-            verdict: v,
-            at: at,
-            tops: tops,
-        },
+        Verdict::Refused(_) => stopped(v, at, tops),
     }
 }
 
@@ -85,7 +91,7 @@ fn damaged_slice(
     tops: [usize; 40],
 ) -> Reading
     requires { ⌜ Lent (now s) c at (length (now cells)) × (t < slices (c .shape)) ⌝ }
-    ensures { λ r. ⌜ Turned (now (s .entry)) (damagedTurn (now (s .entry)) c t (at, tops, now (cells .entry))) r (now (cells .exit)) ⌝ }
+    ensures { λ r. ⌜ Turned (now (s .entry)) (damagedTurn (now (s .entry)) c t (at, tops, now (cells .entry))) (damagedPieces (now (s .entry)) c t (at, tops, now (cells .entry))) r (now (cells .exit)) ⌝ }
 {
     let w = walk_slice(s, c, t, at);
     let v = w.verdict;
@@ -103,12 +109,27 @@ fn slice(
     tops: [usize; 40],
 ) -> Reading
     requires { ⌜ Lent (now s) c at (length (now cells)) × (t < slices (c .shape)) ⌝ }
-    ensures { λ r. ⌜ Turned (now (s .entry)) (turnBy (now (s .entry)) c damaged t (at, tops, now (cells .entry))) r (now (cells .exit)) ⌝ }
+    ensures { λ r. ⌜ Turned (now (s .entry)) (turnBy (now (s .entry)) c damaged t (at, tops, now (cells .entry))) (piecesBy (now (s .entry)) c damaged t (at, tops, now (cells .entry))) r (now (cells .exit)) ⌝ }
 {
     if damaged {
         damaged_slice(s, cells, c, t, at, tops)
     } else {
         slices::slice(s, cells, c, t, at, tops)
+    }
+}
+
+// Behind the last slice, where `bytes` are counted: the end marker, and nothing behind it.
+fn behind_all(s: &[u8], at: usize, tops: [usize; 40], bytes: Bytes) -> Reading
+    requires { ⌜ (at < 2 ^ 32) × (all bytes < 2 ^ 32) ⌝ }
+    ensures { λ r. ⌜ IsEnd (now (s .entry)) at tops bytes r ⌝ }
+{
+    let v = end_row(s, at);
+    let whole = bytes.and(Bytes::of_markers(2));
+    Reading {
+        verdict: v,
+        at: at + 2,
+        tops: tops,
+        bytes: whole.by(v),
     }
 }
 
@@ -122,12 +143,13 @@ pub fn stream(
     tops: [usize; 40],
 ) -> Reading
     requires { ⌜ Lent (now s) c at (length (now cells)) ⌝ }
-    ensures { λ r. ⌜ streamBy (now (s .entry)) c damaged (at, tops, now (cells .entry)) ≡ (r .verdict, (r .at, r .tops, now (cells .exit))) ⌝ }
+    ensures { λ r. ⌜ Streamed (streamBy (now (s .entry)) c damaged (at, tops, now (cells .entry))) (streamPiecesBy (now (s .entry)) c damaged (at, tops, now (cells .entry))) r (now (cells .exit)) ⌝ }
 {
     let shape = c.shape;
     let count = slice_count(shape);
     let mut place = at;
     let mut most = tops;
+    let mut bytes = NOTHING;
     let mut t = 0;
     while t < count {
         let r = slice(damaged, s, cells, c, t, place, most);
@@ -136,20 +158,15 @@ pub fn stream(
         let raised = r.tops;
         most = raised;
         match v {
-            Verdict::Fine => {}
+            Verdict::Fine => {
+                let more = r.bytes;
+                bytes = bytes.and(more);
+            }
             Verdict::Refused(_) => {
-                return Reading {
-                    verdict: v,
-                    at: place,
-                    tops: most,
-                };
+                return stopped(v, place, most);
             }
         }
         t += 1;
     }
-    Reading {
-        verdict: end_row(s, place),
-        at: place + 2,
-        tops: most,
-    }
+    behind_all(s, place, most, bytes)
 }

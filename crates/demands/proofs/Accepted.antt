@@ -12,13 +12,17 @@ use Rattle.rows.specs.declared.Check.{Check}
 use Rattle.rows.specs.declared.Verdict.{Verdict}
 use Rattle.rows.specs.declared.Verdict.the-variants.{Fine, Refused}
 use Rattle.rows.proofs.Tables.{then-fine, answer-fine}
+use Rattle.pieces.specs.declared.Bytes.{Bytes}
+use Rattle.pieces.specs.Pieces.{bytesOf}
 use Rattle.layout.specs.Bands.{Wc}
 use Rattle.layout.specs.Cells.{samples}
 use Rattle.layout.proofs.Cells.{starts-up}
 use Rattle.header.specs.Header.{readingOf}
 use Rattle.header.specs.declared.header.Header.{Header}
 use Rattle.slices.specs.Stream.{stream}
+use Rattle.slices.specs.Pieces.{streamPieces}
 use Rattle.damage.specs.Stream.{streamBy}
+use Rattle.damage.specs.Pieces.{streamPiecesBy}
 use Rattle.planes.specs.Values.{Values, planes}
 use Rattle.planes.specs.Marks.{bit}
 use Rattle.planes.specs.Places.{Inside}
@@ -26,9 +30,9 @@ use Rattle.planes.proofs.Stretches.{offset-below}
 use Rattle.planes.proofs.Planes.{planes-length, planes-at}
 use Rattle.reader.specs.declared.page.Page.{Page}
 use Rattle.reader.specs.Settings.{N}
-use Rattle.reader.specs.Decoding.{samplesFrom, handed, distancesFrom, decoded, decodedVerdict, tops, coefficients}
+use Rattle.reader.specs.Decoding.{samplesFrom, handed, distancesFrom, decoded, decodedVerdict, tops, coefficients, pieces}
 use Rattle.reader.specs.Page.{headerOf, lentVerdict, verdict, pageBy, samplesBy, Reads}
-use Rattle.reader.specs.Modes.{decodedBy, verdictIn, topsIn, coefficientsOf, lostSample, lostMarks, roomChecksIn, lentVerdictIn, verdictOf, LeavesIn, ReadsIn}
+use Rattle.reader.specs.Modes.{decodedBy, verdictIn, topsIn, piecesIn, coefficientsOf, lostSample, lostMarks, roomChecksIn, lentVerdictIn, verdictOf, LeavesIn, ReadsIn}
 use Rattle.reader.specs.Steps.{Opened}
 use Rattle.reader.proofs.Openings.{opened}
 use Rattle.demands.specs.Stored.{shape}
@@ -36,16 +40,16 @@ use Rattle.demands.specs.Demands.{sampleAt}
 use Rattle.demands.specs.Damaged.{markAt}
 
 -- the record's answer is that of the verdict
-answered : (v : Verdict) (h : Header) (d : List ℕ) → pageBy v h d .answer ≡ answer v
-answered Fine h d = refl
-answered (Refused c) h d = refl
+answered : (v : Verdict) (h : Header) (d : List ℕ) (b : Bytes) → pageBy v h d b .answer ≡ answer v
+answered Fine h d b = refl
+answered (Refused c) h d b = refl
 
 -- ---- a reading in either mode, by any verdicts
 
 module _ {damaged : Bool} {s : List ℕ} {lent all : Verdict} {a : List ℕ} {w : List ℤ} {m : List ℕ} {r : Page} {a′ : List ℕ} {w′ : List ℤ} {m′ : List ℕ}
     (leaves : LeavesIn damaged s (headerOf s) lent all a w m r a′ w′ m′) where
   pub answer-in : r .answer ≡ answer all
-  answer-in = ap (λ (p : Page). p .answer) (leaves .page) ∙ answered all (headerOf s) _
+  answer-in = ap (λ (p : Page). p .answer) (leaves .page) ∙ answered all (headerOf s) _ _
 
   pub fine-in : r .answer ≡ 0 → all ≡ Fine
   fine-in e = answer-fine all (sym answer-in ∙ e)
@@ -100,7 +104,7 @@ page-in {damaged} {s} {a} {a′} {m} {m′} {w} {w′} {r} q zero =
     record {
       opened = opened s (header-in damaged s (length a) (length w) (length m) all);
       fine = then-fine (lentVerdictIn damaged s (length a) (length w) (length m)) (verdictIn s h damaged) all .1;
-      distances = ap (λ (p : Page). p .distance) (q .page ∙ (λ i. pageBy (all i) h (distancesFrom h (topsIn s h damaged))));
+      distances = ap (λ (p : Page). p .distance) (q .page ∙ (λ i. pageBy (all i) h (distancesFrom h (topsIn s h damaged)) (bytesOf (piecesIn s h damaged))));
       sample = λ i x y p. ap (λ (l : List ℕ). getD l (samples (shape s) i + (y * Wc (shape s) i + x)) 0) (q .samples ∙ (λ i. samplesBy (all i) (handed h (coefficientsOf s h damaged)) a))
           ∙ plane-at s a (samplesFrom h (coefficientsOf s h damaged)) i x y p;
       mark = λ e i x y p. ap (λ (l : List ℕ). getD l (samples (shape s) i + (y * Wc (shape s) i + x)) 0) (q .marks ∙ (λ i. samplesBy (all i) (cond (e i) (lostMarks s h) []) m))
@@ -120,11 +124,11 @@ unmarked Fine = refl
 unmarked (Refused c) = refl
 
 pub plain-in : {s a a′ : List ℕ} {w w′ : List ℤ} {r : Page} → Reads s a w r a′ w′ → ReadsIn false s a w [] r a′ w′ []
-unfolding lentVerdictIn verdictOf decodedBy streamBy lentVerdict verdict decoded stream
+unfolding lentVerdictIn verdictOf decodedBy streamBy lentVerdict verdict decoded stream piecesIn streamPiecesBy pieces streamPieces
 plain-in {s} {a} {w = w} x = record { page = x .page; samples = x .samples; work = x .work; marks = unmarked (verdict s (length a) (length w)) }
 
 pub in-plain : {s a a′ m′ : List ℕ} {w w′ : List ℤ} {r : Page} → ReadsIn false s a w [] r a′ w′ m′ → Reads s a w r a′ w′
-unfolding lentVerdictIn verdictOf decodedBy streamBy lentVerdict verdict decoded stream
+unfolding lentVerdictIn verdictOf decodedBy streamBy lentVerdict verdict decoded stream piecesIn streamPiecesBy pieces streamPieces
 in-plain x = record { page = x .page; samples = x .samples; work = x .work }
 
 module _ {s a a′ : List ℕ} {w w′ : List ℤ} {r : Page} (reads : Reads s a w r a′ w′) where

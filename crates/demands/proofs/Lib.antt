@@ -13,3 +13,4 @@ pub mod Places
 pub mod Apart
 pub mod Walked
 pub mod Caption
+pub mod Bytes

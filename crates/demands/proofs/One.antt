@@ -12,6 +12,7 @@ use Rattle.rows.specs.declared.Verdict.{Verdict}
 use Rattle.rows.specs.declared.Verdict.the-variants.{Fine, Refused}
 use Rattle.rows.proofs.Tables.{then-fine, answer-most}
 use Rattle.rows.proofs.Sites.{Inside, sited, inside-then, Standing, standing}
+use Rattle.pieces.specs.declared.Bytes.{Bytes}
 use Rattle.header.specs.Header.{readingOf}
 use Rattle.header.specs.declared.header.Header.{Header}
 use Rattle.header.proofs.Sites.{header-inside}
@@ -50,9 +51,9 @@ module _ (damaged : Bool) (s : List ℕ) where
         at e = omega (arith, opened s e .accepted .slice)
 
 -- the record's place: Lcod, which is the stream's length, or the broken check's
-page-place : (s : List ℕ) (v : Verdict) (h : Header) (d : List ℕ) → Inside (length s) v → (v ≡ Fine → h .picture .lcod ≡ length s) → pageBy v h d .place ≤ length s
-page-place s Fine h d i e = omega (arith, e refl)
-page-place s (Refused c) h d i e = i
+page-place : (s : List ℕ) (v : Verdict) (h : Header) (d : List ℕ) (b : Bytes) → Inside (length s) v → (v ≡ Fine → h .picture .lcod ≡ length s) → pageBy v h d b .place ≤ length s
+page-place s Fine h d b i e = omega (arith, e refl)
+page-place s (Refused c) h d b i e = i
 
 pub left : (v : Verdict) (new a : List ℕ) → (answer v ≡ 0 → ⊥) → samplesBy v new a ≡ a
 left Fine new a some = absurd (some refl)
@@ -64,7 +65,7 @@ module _ {damaged : Bool} {s : List ℕ} {lent all : Verdict} {a : List ℕ} {w 
   pub place-by : (room : List Check) → ((n : ℕ) → headerOf s .slice ≤ n → Standing n room) → all ≡ judged damaged s room → r .place ≤ length s
   place-by room stands e =
       subst (λ (p : Page). p .place ≤ length s) (sym (leaves .page))
-      (page-place s all (headerOf s) _ (rw e (judged-inside damaged s room stands)) (λ f. opened s (judged-header damaged s room (sym e ∙ f)) .accepted .whole))
+      (page-place s all (headerOf s) _ _ (rw e (judged-inside damaged s room stands)) (λ f. opened s (judged-header damaged s room (sym e ∙ f)) .accepted .whole))
 
   pub samples-in : (r .answer ≡ 0 → ⊥) → a′ ≡ a
   samples-in some = leaves .samples ∙ left all _ a (λ e. some (answer-in leaves ∙ e))

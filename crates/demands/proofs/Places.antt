@@ -15,6 +15,7 @@ use Rattle.rows.specs.declared.Verdict.{Verdict}
 use Rattle.rows.specs.declared.Verdict.the-variants.{Fine, Refused}
 use Rattle.rows.proofs.Tables.{then-fine, first-append, answer-most}
 use Rattle.rows.proofs.Sites.{Standing}
+use Rattle.pieces.specs.Pieces.{bytesOf}
 use Rattle.header.specs.Header.{readingOf}
 use Rattle.slices.specs.Stream.{stream}
 use Rattle.slices.specs.Table.{streamChecks}
@@ -33,7 +34,7 @@ use Rattle.reader.specs.declared.page.Page.{Page}
 use Rattle.reader.specs.Settings.{N}
 use Rattle.reader.specs.Decoding.{distancesFrom}
 use Rattle.reader.specs.Page.{headerOf, pageBy, samplesBy, Reads}
-use Rattle.reader.specs.Modes.{decodedBy, verdictIn, topsIn, lostSample, roomChecksIn, lentVerdictIn, verdictOf, LeavesIn, ReadsIn, ReadsDamaged}
+use Rattle.reader.specs.Modes.{decodedBy, verdictIn, topsIn, piecesIn, lostSample, roomChecksIn, lentVerdictIn, verdictOf, LeavesIn, ReadsIn, ReadsDamaged}
 use Rattle.reader.specs.Places.{placeDistance, distanceIn, distancePlane, roomChecksBy, lentVerdictBy, verdictBy, ReadsBy, ReadsPlaces, ReadsDamagedPlaces}
 use Rattle.demands.specs.Stored.{shape, setting, beginning, scaledUp}
 use Rattle.demands.specs.Lost.{spared}
@@ -156,7 +157,7 @@ module _ {damaged : Bool} {s a : List ℕ} {w : List ℤ} {m d : List ℕ} {q : 
     short-in : ShortPlane s (length d) r q
     short-in e l =
         let short = with-short damaged s (length a) (length w) (length m) (length d) (fine-in plain e) l in
-        let page = reads .beside .page ∙ (λ i. pageBy (short i) (headerOf s) (distancesFrom (headerOf s) (topsIn s (headerOf s) damaged))) in
+        let page = reads .beside .page ∙ (λ i. pageBy (short i) (headerOf s) (distancesFrom (headerOf s) (topsIn s (headerOf s) damaged)) (bytesOf (piecesIn s (headerOf s) damaged))) in
         ((λ i. page i .answer), λ i. page i .place)
 
 -- ---- a page

@@ -12,6 +12,7 @@ use Rattle.rows.specs.Tables.{Unbroken}
 use Rattle.rows.specs.declared.Verdict.{Verdict}
 use Rattle.rows.specs.declared.Verdict.the-variants.{Fine, Refused}
 use Rattle.rows.proofs.Tables.{first-append, fine-iff, first-breaks}
+use Rattle.pieces.specs.declared.Bytes.{Bytes}
 use Rattle.header.specs.Header.{readingOf}
 use Rattle.header.specs.Table.{headerChecks}
 use Rattle.header.proofs.Table.{one-table}
@@ -55,9 +56,9 @@ table-verdict s a w = joined-tables s (roomChecks (headerOf s) a w) (streamCheck
 
 -- ---- and so is the answer
 
-decided : (t : List Check) (v : Verdict) (h : Header) (d : List ℕ) → v ≡ first t → (answer v ≡ 0 → ⊥) → Decided t (pageBy v h d)
-decided t Fine h d e no0 = absurd (no0 refl)
-decided t (Refused c) h d e no0 = record { check = c; first-broken = first-breaks t c .0 (sym e); answer = refl; place = refl }
+decided : (t : List Check) (v : Verdict) (h : Header) (d : List ℕ) (b : Bytes) → v ≡ first t → (answer v ≡ 0 → ⊥) → Decided t (pageBy v h d b)
+decided t Fine h d b e no0 = absurd (no0 refl)
+decided t (Refused c) h d b e no0 = record { check = c; first-broken = first-breaks t c .0 (sym e); answer = refl; place = refl }
 
 module _ {damaged : Bool} {s : List ℕ} {lent all : Verdict} {a : List ℕ} {w : List ℤ} {m : List ℕ} {r : Page} {a′ : List ℕ} {w′ : List ℤ} {m′ : List ℕ}
     (leaves : LeavesIn damaged s (headerOf s) lent all a w m r a′ w′ m′) (t : List Check) (by-table : all ≡ first t) where
@@ -65,7 +66,7 @@ module _ {damaged : Bool} {s : List ℕ} {lent all : Verdict} {a : List ℕ} {w 
   accepted-by = (λ e. fine-iff t .0 (sym by-table ∙ fine-in leaves e), λ u. answer-in leaves ∙ ap answer (by-table ∙ fine-iff t .1 u))
 
   pub refused-by : (r .answer ≡ 0 → ⊥) → Decided t r
-  refused-by some = subst (Decided t) (sym (leaves .page)) (decided t all (headerOf s) _ by-table (λ e. some (answer-in leaves ∙ e)))
+  refused-by some = subst (Decided t) (sym (leaves .page)) (decided t all (headerOf s) _ _ by-table (λ e. some (answer-in leaves ∙ e)))
 
 -- ---- demand 2
 

@@ -12,8 +12,11 @@ use Rattle.rows.specs.declared.Verdict.the-variants.{Fine}
 use Rattle.rows.specs.declared.Row.the-variants.{Lent}
 use Rattle.rows.specs.declared.Field.the-variants.{Marks}
 use Rattle.rows.proofs.Tables.{then-fine, first-append}
+use Rattle.pieces.specs.Pieces.{bytesOf}
 use Rattle.header.specs.Header.{readingOf}
+use Rattle.header.specs.Pieces.{headerPieces}
 use Rattle.damage.proofs.Walked.{damaged-same, damaged-unspoilt}
+use Rattle.damage.proofs.Pieces.{pieces-whole}
 use Rattle.planes.specs.Values.{planes}
 use Rattle.planes.specs.Marks.{bit}
 use Rattle.planes.specs.Places.{Inside, coefficientsIn}
@@ -21,9 +24,9 @@ use Rattle.planes.proofs.Planes.{planes-length, planes-each}
 use Rattle.planes.proofs.Marking.{no-marks}
 use Rattle.reader.specs.declared.page.Page.{Page}
 use Rattle.reader.specs.Settings.{N, roomChecks}
-use Rattle.reader.specs.Decoding.{handed, distancesFrom, decoded, decodedVerdict}
+use Rattle.reader.specs.Decoding.{handed, distancesFrom, decoded, decodedVerdict, pieces}
 use Rattle.reader.specs.Page.{headerOf, lentVerdict, verdict, pageBy, samplesBy, workBy, Reads}
-use Rattle.reader.specs.Modes.{decodedBy, lostAt, lostSample, lostMarks, roomChecksIn, lentVerdictIn, verdictOf, ReadsDamaged}
+use Rattle.reader.specs.Modes.{decodedBy, piecesIn, lostAt, lostSample, lostMarks, roomChecksIn, lentVerdictIn, verdictOf, ReadsDamaged}
 use Rattle.reader.specs.Steps.{Opened}
 use Rattle.reader.proofs.Openings.{colours}
 use Rattle.demands.specs.Stored.{shape, setting, beginning}
@@ -38,6 +41,11 @@ module _ {s : List ℕ} (o : Opened s (headerOf s)) (fine : decodedVerdict s (he
   same-slices =
       let e : decoded s (headerOf s) ≡ (Fine, decoded s (headerOf s) .1) = λ i. (fine i, decoded s (headerOf s) .1) in
       damaged-same s (setting s) (beginning s) (decoded s (headerOf s) .1) e ∙ sym e
+
+  -- and have the same pieces
+  same-pieces : piecesIn s (headerOf s) true ≡ pieces s (headerOf s)
+  unfolding piecesIn pieces decoded
+  same-pieces = λ i. headerPieces s ++ pieces-whole s (setting s) (beginning s) (decoded s (headerOf s) .1) (λ j. (fine j, decoded s (headerOf s) .1)) i
 
   pub unspoilt : (i x y : ℕ) → Inside (shape s) i x y → lostSample s (headerOf s) i x y ≡ false
   unfolding lostSample decoded
@@ -76,7 +84,10 @@ damaged-page-whole {s} {a} {m = m} {w = w} reads e mends room =
     let lent′ : lentVerdictIn true s (length a) (length w) (length m) ≡ Fine = λ i. then (parts .0 i) (enough-room s (length a) (length w) (length m) (parts .1) room i) in
     let all′ : verdictOf true s (length a) (length w) (length m) ≡ Fine = (λ i. then (lent′ i) (same i .0)) ∙ page .fine in
     record {
-      page = mends .page ∙ (λ i. pageBy (all′ i) h (distancesFrom h (same i .1 .1))) ∙ sym (reads .page ∙ (λ i. pageBy (all i) h (distancesFrom h (decoded s h .1 .1))));
+      page =
+          mends .page
+          ∙ (λ i. pageBy (all′ i) h (distancesFrom h (same i .1 .1)) (bytesOf (same-pieces (page .opened) (page .fine) i)))
+          ∙ sym (reads .page ∙ (λ i. pageBy (all i) h (distancesFrom h (decoded s h .1 .1)) (bytesOf (pieces s h))));
       samples = mends .samples ∙ (λ i. samplesBy (all′ i) (handed h (coefficientsIn (shape s) (same i .1 .2))) a) ∙ sym (reads .samples ∙ (λ i. samplesBy (all i) (handed h (coefficientsIn (shape s) (decoded s h .1 .2))) a));
       work = mends .work ∙ (λ i. workBy (lent′ i) (2 * N h) w) ∙ sym (reads .work ∙ (λ i. workBy (lent i) (2 * N h) w));
       marks = mends .marks ∙ (λ i. samplesBy (all′ i) (no-marks-left (page .opened) (page .fine) i) m) ∙ (λ i. replicate (N h) 0 ++ drop (length-replicate {A = ℕ} (N h) 0 i) m);

@@ -7,3 +7,4 @@ pub mod Demands
 pub mod Caption
 pub mod Damaged
 pub mod Places
+pub mod Bytes

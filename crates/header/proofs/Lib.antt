@@ -4,6 +4,7 @@ pub mod Ranges
 pub mod Sound
 pub mod Chain
 pub mod Accepted
+pub mod Pieces
 pub mod Table
 pub mod Sites
 pub mod Rows

@@ -5,4 +5,5 @@ pub mod Header
 pub mod Occurrence
 pub mod Accepted
 pub mod Table
+pub mod Pieces
 pub mod Order

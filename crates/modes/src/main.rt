@@ -2,6 +2,8 @@
 //   d  the page in spite of damage: its text, and its marks
 //   p  the page with a distance for each sample: its text, and the distances
 //   q  both: its text, its marks, and the distances
+//   b  the page and where the bytes of its stream went: its text, and a line of the nine totals
+//   c  the same in spite of damage, without its marks
 use libc::STDIN_FILENO;
 use libc::STDOUT_FILENO;
 use show::modes::Mode;
@@ -27,6 +29,8 @@ fn print_mode(letter: u8, stream: &[u8]) {
         b'd' => print_page(Mode::Damaged, stream),
         b'p' => print_page(Mode::Places, stream),
         b'q' => print_page(Mode::DamagedPlaces, stream),
+        b'b' => print_page(Mode::Bytes, stream),
+        b'c' => print_page(Mode::DamagedBytes, stream),
         _ => print(b"unknown mode\n"),
     }
 }

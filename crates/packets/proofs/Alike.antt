@@ -32,6 +32,7 @@ use Rattle.packets.specs.Precincts.{D, T, stretch}
 use Rattle.packets.specs.Ready.{Slotted}
 use Rattle.packets.specs.Passes.{line, flags, marks, modeOf, placeOf, codingOf, Counting, counted, countTurn, packetCounts, packetValues}
 use Rattle.packets.specs.Packets.{signLength, head, raw, sigAt, Lsig, cntAt, datAt, sgnAt, Lsign, past, dataBytes, signBytes, flagChecks, headChecks, countChecks, dataChecks, signChecks, afterValues, valuesBy, afterCounts, countsOf, countsBy, packet}
+use Rattle.packets.specs.Pieces.{piecesOf, packetPieces}
 use Rattle.packets.specs.Leftover.{SameLeft}
 use Rattle.packets.proofs.Lines.{lies}
 use Rattle.packets.proofs.Laws.{packet-inside}
@@ -122,12 +123,16 @@ module _ (s s′ : List ℕ) (c : Setting) (p : Precinct) (slot : ℕ) (slotted 
 
     -- and whose subpackets have the same bytes
     module _ (body : Alike s s′ (sigAt s c p slot at) (past s c p slot at)) where
-      values-alike : (v : Verdict) (cells : List ℤ) → valuesBy s′ c p slot at v cells ≡ valuesBy s c p slot at v cells
-      values-alike Fine cells =
+      packet-values-alike : (cells : List ℤ)
+          → packetValues c p slot (dataBytes s′ c p slot at) (signBytes s′ c p slot at) cells ≡ packetValues c p slot (dataBytes s c p slot at) (signBytes s c p slot at) cells
+      packet-values-alike cells =
           let dat = stretch-alike body (datAt s c p slot at) (head s c p slot at .ldat) (omega arith) (omega arith) in
           let sgn = stretch-alike body (sgnAt s c p slot at) (Lsign s c p slot at) (omega arith) (omega arith) in
-          (λ i. afterValues s′ c p slot at (packetValues c p slot (stretch s′ (dat-alike i) (ldat i)) (stretch s′ (dat-alike i + ldat i) (signs i)) cells))
-          ∙ (λ i. afterValues s′ c p slot at (packetValues c p slot (dat i) (sgn i) cells))
+          (λ i. packetValues c p slot (stretch s′ (dat-alike i) (ldat i)) (stretch s′ (dat-alike i + ldat i) (signs i)) cells) ∙ (λ i. packetValues c p slot (dat i) (sgn i) cells)
+
+      values-alike : (v : Verdict) (cells : List ℤ) → valuesBy s′ c p slot at v cells ≡ valuesBy s c p slot at v cells
+      values-alike Fine cells =
+          (λ i. afterValues s′ c p slot at (packet-values-alike cells i))
           ∙ (λ i.
           let x = packetValues c p slot (dataBytes s c p slot at) (signBytes s c p slot at) cells in
           (first (sign-checks-alike (x .0 .sign) i), x .1))
@@ -156,6 +161,13 @@ module _ (s s′ : List ℕ) (c : Setting) (p : Precinct) (slot : ℕ) (slotted 
           by Fine = (λ i. afterCounts s′ c p slot at (counts-of-alike cells i)) ∙ after-alike (countsOf s c p slot at cells)
           by (Refused k) = refl
 
+      -- and the same pieces
+      pub pieces-alike : (cells : List ℤ) → packetPieces s′ c p slot at cells ≡ packetPieces s c p slot at cells
+      unfolding packetPieces
+      pieces-alike cells =
+          (λ i. piecesOf c (sig-alike i) (lcnt i) (ldat i) (signs i) (counts-of-alike cells i .0) (packetValues c p slot (dataBytes s′ c p slot at) (signBytes s′ c p slot at) (counts-of-alike cells i .1) .0))
+          ∙ (λ i. piecesOf c (Lsig s c p slot at) (head s c p slot at .lcnt) (head s c p slot at .ldat) (Lsign s c p slot at) (countsOf s c p slot at cells .0) (packet-values-alike (countsOf s c p slot at cells .1) i .0))
+
 -- ---- an accepted packet, where the precinct has the same bytes
 
 -- Table C.4's header is made of whole bytes
@@ -181,4 +193,5 @@ accepted-alike {s} {s′} c p slot slotted whole alike wide at behind inside raw
       left = packet-alike s s′ c p slot slotted header at (λ i. same i .dr) (λ i. same i .ldat) (λ i. same i .lcnt) (λ i. signLength c (same i)) body raws cells;
       dr = λ i. same i .dr;
       past = past-alike s s′ c p slot slotted header at (λ i. same i .dr) (λ i. same i .ldat) (λ i. same i .lcnt) (λ i. signLength c (same i));
+      pieces = pieces-alike s s′ c p slot slotted header at (λ i. same i .dr) (λ i. same i .ldat) (λ i. same i .lcnt) (λ i. signLength c (same i)) body cells;
     }

@@ -12,7 +12,7 @@ use Rattle.packets.specs.declared.Precinct.{Precinct}
 use Rattle.packets.specs.Ready.{Slotted}
 use Rattle.packets.specs.Packets.{sigAt, Lsign, past}
 use Rattle.packets.specs.Leftover.{ButSignLength, SameLeft}
-use Rattle.packets.proofs.Alike.{packet-alike, past-alike}
+use Rattle.packets.proofs.Alike.{packet-alike, past-alike, pieces-alike}
 
 module _ (s s′ : List ℕ) (c : Setting) (p : Precinct) (slot at : ℕ) (fs : c .fs ≡ false) where
   no-signs : (s : List ℕ) → Lsign s c p slot at ≡ 0
@@ -26,4 +26,5 @@ module _ (s s′ : List ℕ) (c : Setting) (p : Precinct) (slot at : ℕ) (fs : 
         left = packet-alike s s′ c p slot slotted (same .precinct) at (same .dr) (same .ldat) (same .lcnt) signs body raws cells;
         dr = same .dr;
         past = past-alike s s′ c p slot slotted (same .precinct) at (same .dr) (same .ldat) (same .lcnt) signs;
+        pieces = pieces-alike s s′ c p slot slotted (same .precinct) at (same .dr) (same .ldat) (same .lcnt) signs body cells;
       }

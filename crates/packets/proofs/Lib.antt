@@ -9,6 +9,7 @@ pub mod Counts
 pub mod Coefficients
 pub mod Examples
 pub mod Table
+pub mod Pieces
 pub mod Flags
 pub mod Walked
 pub mod Above

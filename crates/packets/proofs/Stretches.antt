@@ -24,10 +24,13 @@ use Rattle.values.specs.declared.Next.{Next}
 use Rattle.packets.specs.declared.Setting.{Setting}
 use Rattle.packets.specs.declared.Precinct.{Precinct}
 use Rattle.packets.specs.declared.Parts.{Parts}
+use Rattle.packets.specs.declared.Signed.{Signed}
+use Rattle.packets.specs.declared.Content.{Content}
 use Rattle.packets.specs.Precincts.{stretch}
 use Rattle.packets.specs.Passes.{marks, packetCounts, packetValues}
-use Rattle.packets.specs.Packets.{signLength, flagChecks, head, raw, Lsig, sigAt, cntAt, datAt, Lsign, past, headChecks, countChecks, dataChecks, afterValues, valuesBy, afterCounts, countsBy, countsOf}
-use Rattle.packets.specs.Steps.{Working, IsParts, boundFlag}
+use Rattle.packets.specs.Packets.{signLength, flagChecks, head, raw, Lsig, sigAt, cntAt, datAt, Lsign, past, dataBytes, signBytes, headChecks, countChecks, dataChecks, afterValues, valuesBy, afterCounts, countsBy, countsOf}
+use Rattle.packets.specs.Pieces.{countContent, dataContent, signContent}
+use Rattle.packets.specs.Steps.{Working, dataRow, IsParts, boundFlag, reached, IsSigned, IsContent}
 use Rattle.packets.proofs.LinePasses.{standing-still}
 
 pub signs-most : (c : Setting) (h : PacketHeader) → signLength c h ≤ h .lsgn
@@ -124,13 +127,13 @@ module _ (s : List ℕ) (c : Setting) (p : Precinct) (slot at : ℕ) where
     long-sig : parts .cnt - parts .sig ≡ Lsig s c p slot at
     long-sig = omega (arith, is .sig, is .cnt)
 
-    long-cnt : parts .dat - parts .cnt ≡ head s c p slot at .lcnt
+    pub long-cnt : parts .dat - parts .cnt ≡ head s c p slot at .lcnt
     long-cnt = omega (arith, is .cnt, is .dat)
 
-    long-dat : parts .sgn - parts .dat ≡ head s c p slot at .ldat
+    pub long-dat : parts .sgn - parts .dat ≡ head s c p slot at .ldat
     long-dat = omega (arith, is .dat, is .sgn)
 
-    long-sgn : parts .past - parts .sgn ≡ Lsign s c p slot at
+    pub long-sgn : parts .past - parts .sgn ≡ Lsign s c p slot at
     long-sgn = omega (arith, is .sgn, is .past)
 
     -- ---- the counts
@@ -143,15 +146,10 @@ module _ (s : List ℕ) (c : Setting) (p : Precinct) (slot at : ℕ) where
 
     -- ---- behind the counts
 
-    pub done-table : {line : Counted} {next need bytes left : ℕ} {v : Verdict} → line ≡ Done next need → bytes ≡ ceilDiv need 2 → left ≡ p .end - parts .sgn
-        → v ≡ first (
-        check Length (parts .dat) Data (p .end - parts .dat) (parts .sgn - parts .dat) ample
-        ∷ check Length (parts .dat) Data (parts .sgn - parts .dat) bytes ample
-        ∷ check Length (parts .sgn) Signs left (parts .past - parts .sgn) ample
-        ∷ [])
+    pub done-table : {line : Counted} {next need bytes : ℕ} {v : Verdict} → line ≡ Done next need → bytes ≡ ceilDiv need 2 → v ≡ first (dataRow p parts bytes)
         → v ≡ first (countChecks s c p slot at line ++ dataChecks s c p slot at line)
-    done-table e b l f =
-        let rest = l ∙ ap (λ (n : ℕ). p .end - n) (is .sgn) in
+    done-table e b f =
+        let rest = ap (λ (n : ℕ). p .end - n) (is .sgn) in
         f ∙ (λ i. first (
         check Length (is .dat i) Data (p .end - is .dat i) (long-dat i) ample
         ∷ check Length (is .dat i) Data (long-dat i) (b i) ample
@@ -189,9 +187,54 @@ module _ (s : List ℕ) (c : Setting) (p : Precinct) (slot at : ℕ) where
         ∙ ap (afterValues s c p slot at) f
         ∙ (λ i. (sym (g ∙ (λ j. first (check Length (is .sgn j) Signs (long-sgn j) (u j) ample ∷ []))) i, cells′))
 
+    pub signs-are : (cells : List ℤ) {next : Next} {cells′ : List ℤ} {used : ℕ}
+        → packetValues c p slot (stretch s (parts .dat) (parts .sgn - parts .dat)) (stretch s (parts .sgn) (parts .past - parts .sgn)) cells ≡ (next, cells′)
+        → used ≡ ceilDiv (next .sign) 8
+        → used ≡ signContent (packetValues c p slot (dataBytes s c p slot at) (signBytes s c p slot at) cells .0)
+    signs-are cells f u =
+        u ∙ (λ i. signContent (sym f i .0))
+        ∙ (λ i. signContent (packetValues c p slot (stretch s (is .dat i) (long-dat i)) (stretch s (is .sgn i) (long-sgn i)) cells .0))
+
   -- a refusal stands
-  pub values-stand : (cells : List ℤ) {v : Verdict} {k : Check} → v ≡ Refused k → valuesBy s c p slot at v cells ≡ (v, cells)
+  values-stand : (cells : List ℤ) {v : Verdict} {k : Check} → v ≡ Refused k → valuesBy s c p slot at v cells ≡ (v, cells)
   values-stand cells e = rw e
+
+  pub signs-stand : (cells : List ℤ) {v : Verdict} {k : Check} → v ≡ Refused k → IsSigned s c p slot at v cells (record { verdict = v; signs = 0 }) cells
+  signs-stand cells e = record { left = values-stand cells e; signs = rw e }
+
+  pub signs-told : (cells : List ℤ) {v : Verdict} {r : Signed} {cells′ : List ℤ} → v ≡ Fine → IsSigned s c p slot at Fine cells r cells′ → IsSigned s c p slot at v cells r cells′
+  signs-told cells {r = r} {cells′ = cells′} e h = subst (λ (v : Verdict). IsSigned s c p slot at v cells r cells′) (sym e) h
+
+  -- ---- the contents
+
+  -- of counts that are done
+  pub done-content : {line : Counted} {next need k n : ℕ} {v : Verdict} {cells : List ℤ} {r : Signed} {cells′ : List ℤ} → line ≡ Done next need
+      → v ≡ first (countChecks s c p slot at line ++ dataChecks s c p slot at line) → k ≡ ceilDiv next 8 → n ≡ ceilDiv need 2 → IsSigned s c p slot at v cells r cells′
+      → IsContent s c p slot at (line, cells) (record { verdict = r .verdict; counts = k; «data» = n; signs = r .signs }) cells′
+  done-content {cells = cells} e f k n h =
+      record {
+        left = (λ i. valuesBy s c p slot at (sym f i) cells) ∙ h .left;
+        counts = k ∙ ap countContent (sym e);
+        «data» = n ∙ ap dataContent (sym e);
+        signs = h .signs ∙ (λ i. reached (f i) (signContent (packetValues c p slot (dataBytes s c p slot at) (signBytes s c p slot at) cells .0)));
+      }
+
+  -- and of counts that are refused: none
+  module _ {line : Counted} {cells cells′ : List ℤ} {r : Content} (none : (r .counts ≡ 0) × (r .«data» ≡ 0) × (r .signs ≡ 0))
+      (left : afterCounts s c p slot at (line, cells) ≡ (r .verdict, cells′)) where
+    unread : {k : Check} → first (countChecks s c p slot at line ++ dataChecks s c p slot at line) ≡ Refused k → countContent line ≡ 0 → dataContent line ≡ 0
+        → IsContent s c p slot at (line, cells) r cells′
+    unread e k n = record { left = left; counts = none .0 ∙ sym k; «data» = none .1 ∙ sym n; signs = none .2 ∙ rw e refl }
+
+    pub cut-content : line ≡ Cut → IsContent s c p slot at (line, cells) r cells′
+    cut-content e =
+        let n = head s c p slot at .lcnt in
+        let cut = check Length (cntAt s c p slot at) Counts n (n + 1) ample in
+        let refused : first (cut ∷ []) ≡ Refused cut = rw (lt-ltb n (n + 1) (omega arith)) in
+        unread ((λ i. first (countChecks s c p slot at (e i) ++ dataChecks s c p slot at (e i))) ∙ refused) (ap countContent e) (ap dataContent e)
+
+    pub high-content : line ≡ High → IsContent s c p slot at (line, cells) r cells′
+    high-content e = unread (λ i. first (countChecks s c p slot at (e i) ++ dataChecks s c p slot at (e i))) (ap countContent e) (ap dataContent e)
 
   pub counts-stand : (cells : List ℤ) {v : Verdict} {k : Check} → v ≡ Refused k → countsBy s c p slot at v cells ≡ (v, cells)
   counts-stand cells e = rw e

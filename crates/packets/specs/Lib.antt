@@ -5,6 +5,7 @@ pub mod Passes
 pub mod Packets
 pub mod Steps
 pub mod Table
+pub mod Pieces
 pub mod Stored
 pub mod Walked
 pub mod Counted

@@ -2,12 +2,18 @@
 use Prim.Native.Nat.{ℕ, _+_, _*_, _-_, _^_, _≤_, _<_}
 use mathlib.Core.Path.{_≡_}
 use mathlib.Core.Bool.{Bool, true, not, cond, _&&_}
-use mathlib.Core.List.{List}
+use mathlib.Core.List.{List, [], _∷_, _++_}
 use lib.IntN.{ℤ}
 use lib.ListN.{length, getD}
 use lib.Dec.{leb}
-use Rattle.rows.specs.Rows.{first}
-use Rattle.rows.specs.declared.Verdict.the-variants.{Fine}
+use Rattle.rows.specs.Rows.{check, ample, first}
+use Rattle.rows.specs.declared.Check.{Check}
+use Rattle.rows.specs.declared.Row.the-variants.{Length}
+use Rattle.rows.specs.declared.Field.the-variants.{Data, Signs}
+use Rattle.rows.specs.declared.Verdict.{Verdict}
+use Rattle.rows.specs.declared.Verdict.the-variants.{Fine, Refused}
+use Rattle.pieces.specs.declared.Bytes.{Bytes}
+use Rattle.pieces.specs.Pieces.{bytesOf, bytesBy}
 use Rattle.layout.specs.declared.Shape.{Shape}
 use Rattle.layout.specs.declared.Line.{Line}
 use Rattle.layout.specs.Bands.{NL, band-exists}
@@ -22,11 +28,32 @@ use Rattle.packets.specs.declared.Setting.{Setting}
 use Rattle.packets.specs.declared.Precinct.{Precinct}
 use Rattle.packets.specs.declared.Parts.{Parts}
 use Rattle.packets.specs.declared.Opened.{Opened}
+use Rattle.packets.specs.declared.Signed.{Signed}
+use Rattle.packets.specs.declared.Content.{Content}
+use Rattle.packets.specs.declared.Passed.{Passed}
 use Rattle.packets.specs.declared.Outcome.{Outcome}
 use Rattle.packets.specs.Precincts.{D, T}
 use Rattle.packets.specs.Ready.{Slotted, Standing}
-use Rattle.packets.specs.Passes.{marks, flags, codingOf, placeOf, valuesOf, valued}
-use Rattle.packets.specs.Packets.{head, raw, sigAt, cntAt, datAt, sgnAt, past, headChecks, packet}
+use Rattle.packets.specs.Passes.{marks, flags, codingOf, placeOf, valuesOf, valued, packetValues}
+use Rattle.packets.specs.Packets.{
+  head,
+  raw,
+  sigAt,
+  cntAt,
+  datAt,
+  sgnAt,
+  past,
+  dataBytes,
+  signBytes,
+  headChecks,
+  countChecks,
+  dataChecks,
+  valuesBy,
+  afterCounts,
+  countsBy,
+  packet,
+}
+use Rattle.packets.specs.Pieces.{countContent, dataContent, signContent, packetPieces}
 
 -- ---- what is asked: a slot of a precinct with the stream, and with n cells
 
@@ -50,6 +77,15 @@ pub record Lies (s : Shape) (row : ℕ) (l : Line) : Type 0 where
   pub exists : band-exists s (l .band) ≡ true
   pub above : 0 < row → l .up ≤ l .cell
 
+-- the parts of a packet stand one after the other, and the contents of its subpackets fit in
+pub record Holds (r : Parts) (counts nibbles signs : ℕ) : Type 0 where
+  pub sig : r .at ≤ r .sig
+  pub cnt : r .sig ≤ r .cnt
+  pub dat : r .cnt + counts ≤ r .dat
+  pub sgn : r .dat + nibbles ≤ r .sgn
+  pub past : r .sgn + signs ≤ r .past
+  pub small : r .past < 2 ^ 40
+
 -- ---- what is answered. Bounds follow from the values, and stand beside them for the callers' sums
 
 pub record IsMode (s : List ℕ) (c : Setting) (p : Precinct) (b r : ℕ) : Type 0 where
@@ -68,6 +104,30 @@ pub record AllMarks (s : List ℕ) (c : Setting) (p : Precinct) (slot : ℕ) (ra
   pub value : r ≡ marks s c p slot raw (candidates (c .shape) slot)
   pub small : r < 2 ^ 40
 
+-- where the bytes of a packet went, by its parts and the contents of its subpackets
+abbrev pub partBytes : Parts → ℕ → ℕ → ℕ → Bytes
+partBytes r counts nibbles signs =
+    record {
+      markers = 0;
+      precincts = 0;
+      packets = r .sig - r .at;
+      significance = r .cnt - r .sig;
+      counts = counts;
+      «data» = nibbles;
+      signs = signs;
+      filler = r .dat - r .cnt - counts + (r .sgn - r .dat - nibbles) + (r .past - r .sgn - signs);
+      spoilt = 0;
+    }
+
+-- the checks of the data's length, where their content has so many bytes, and of the signs' length, by the parts of the packet. `done-table` shows that they are
+-- `dataChecks`
+abbrev pub dataRow : Precinct → Parts → ℕ → List Check
+dataRow p r content =
+    check Length (r .dat) Data (p .end - r .dat) (r .sgn - r .dat) ample
+    ∷ check Length (r .dat) Data (r .sgn - r .dat) content ample
+    ∷ check Length (r .sgn) Signs (p .end - r .sgn) (r .past - r .sgn) ample
+    ∷ []
+
 -- the first slot that shares a band with an earlier one, which is the third before it
 abbrev pub firstBound : ℕ
 firstBound = 7
@@ -82,6 +142,11 @@ countLine s c p cnt sig raw l at z cells = cond (l .present) (lineCounts cnt sig
 
 abbrev pub valueLine : Setting → Precinct → List ℕ → List ℕ → Line → Next → List ℤ → Next × List ℤ
 valueLine c p dat sgn l from cells = cond (l .present) (lineValues dat sgn (valuesOf c) (valued c p l) from cells) (from, cells)
+
+-- the content of a subpacket, by the verdict of what stands before it: none where the decoder does not come to it
+abbrev pub reached : Verdict → ℕ → ℕ
+reached Fine content = content
+reached (Refused k) content = 0
 
 module _ (s : List ℕ) (c : Setting) (p : Precinct) (slot at : ℕ) where
   pub record IsParts (r : Parts) : Type 0 where
@@ -101,8 +166,28 @@ module _ (s : List ℕ) (c : Setting) (p : Precinct) (slot at : ℕ) where
     pub parts : IsParts (r .parts)
     pub inside : r .verdict ≡ Fine → r .parts .dat ≤ p .end
 
-  -- a packet: what it leaves, its raw flag, and the place behind it
+  -- the values, by the verdict of the counts and of the data's length
+  pub record IsSigned (v : Verdict) (cells : List ℤ) (r : Signed) (cells′ : List ℤ) : Type 0 where
+    pub left : valuesBy s c p slot at v cells ≡ (r .verdict, cells′)
+    pub signs : r .signs ≡ reached v (signContent (packetValues c p slot (dataBytes s c p slot at) (signBytes s c p slot at) cells .0))
+
+  -- what follows the counts
+  pub record IsContent (x : Counted × List ℤ) (r : Content) (cells′ : List ℤ) : Type 0 where
+    pub left : afterCounts s c p slot at x ≡ (r .verdict, cells′)
+    pub counts : r .counts ≡ countContent (x .0)
+    pub «data» : r .«data» ≡ dataContent (x .0)
+    pub signs : r .signs
+        ≡ reached (first (countChecks s c p slot at (x .0) ++ dataChecks s c p slot at (x .0)))
+        (signContent (packetValues c p slot (dataBytes s c p slot at) (signBytes s c p slot at) (x .1) .0))
+
+  -- the counts and what follows them, by the verdict of the header
+  pub record IsPassed (v : Verdict) (cells : List ℤ) (r : Passed) (cells′ : List ℤ) : Type 0 where
+    pub left : countsBy s c p slot at v cells ≡ (r .verdict, cells′)
+    pub bytes : r .bytes ≡ bytesBy (r .verdict) (bytesOf (packetPieces s c p slot at cells))
+
+  -- a packet: what it leaves, its raw flag, the place behind it, and its bytes
   pub record Decoded (raws : List ℕ) (cells : List ℤ) (r : Outcome) (cells′ : List ℤ) : Type 0 where
     pub left : packet s c p slot at raws cells ≡ (r .verdict, cells′)
     pub dr : r .dr ≡ head s c p slot at .dr
     pub past : r .past ≡ past s c p slot at
+    pub bytes : r .bytes ≡ bytesBy (r .verdict) (bytesOf (packetPieces s c p slot at cells))

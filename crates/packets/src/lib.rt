@@ -5,6 +5,8 @@ pub mod passes;
 use bits::packet::PacketHeader;
 use bits::packet::Widths;
 use layout::Shape;
+use pieces::Bytes;
+use pieces::NOTHING;
 use rows::AMPLE;
 use rows::Check;
 use rows::Field;
@@ -12,16 +14,31 @@ use rows::HOLDS;
 use rows::Row;
 use rows::Verdict;
 ghost use mathlib.Core.Path.{_≡_};
-ghost use mathlib.Core.Bool.{true, cond};
+ghost use mathlib.Core.Bool.{true};
 ghost use Prim.Native.Nat.{_-_, _≤_, _<_};
-ghost use lib.ListN.{length, getD};
+ghost use lib.ListN.{length};
 ghost use Rattle.whole.specs.Numbers.{ceilDiv};
+ghost use Rattle.rows.specs.Rows.{first};
 ghost use Rattle.rows.specs.declared.Verdict.the-variants.{Fine};
 ghost use Rattle.bits.specs.Packet.{IsHeader};
 ghost use Rattle.layout.specs.Slots.{slots, candidates};
-ghost use Rattle.packets.specs.Packets.{anyLine, valuesBy, afterCounts, countsBy, countsOf};
+ghost use Rattle.pieces.specs.Pieces.{bytesBy};
+ghost use Rattle.packets.specs.Packets.{anyLine, countsOf};
 ghost use Rattle.packets.specs.Ready.{Settled, Standing};
-ghost use Rattle.packets.specs.Steps.{Within, Working, IsParts, Opening, Decoded, boundFlag};
+ghost use Rattle.packets.specs.Steps.{
+  Within,
+  Working,
+  Holds,
+  partBytes,
+  dataRow,
+  IsParts,
+  Opening,
+  IsSigned,
+  IsContent,
+  IsPassed,
+  Decoded,
+  boundFlag,
+};
 
 // What Annex C needs of the headers: Annex B's shape, the widths of a packet header, Br, Fq, whether Qpih selects the uniform quantiser, whether Fs, Rm
 // and Rl are 1, and gain and priority of each band.
@@ -66,11 +83,32 @@ struct Opened {
     parts: Parts,
 }
 
-// What a packet leaves beside the cells: the verdict, its raw flag, and the place behind it.
+// What the values leave beside the cells: the verdict, and the bytes that the content of the sign subpacket takes.
+struct Signed {
+    verdict: Verdict,
+    signs: usize,
+}
+
+// What the counts, the data and the signs leave: the verdict, and the bytes that the content of each takes, 0 where the decoder does not come to it.
+struct Content {
+    verdict: Verdict,
+    counts: usize,
+    data: usize,
+    signs: usize,
+}
+
+// The same with the header and with filler: where the bytes of the packet went.
+struct Passed {
+    verdict: Verdict,
+    bytes: Bytes,
+}
+
+// What a packet leaves beside the cells: the verdict, its raw flag, the place behind it, and where its bytes went.
 pub struct Outcome {
     pub verdict: Verdict,
     pub dr: usize,
     pub past: usize,
+    pub bytes: Bytes,
 }
 
 // a − b, or 0.
@@ -170,16 +208,9 @@ fn open(s: &[u8], c: Setting, p: Precinct, slot: usize, at: usize, raws: [usize;
 }
 
 // The data and the signs, each from its own stretch, and then whether the signs' stretch was long enough.
-fn values(
-    s: &[u8],
-    cells: &mut [i64],
-    c: Setting,
-    p: Precinct,
-    slot: usize,
-    parts: Parts,
-) -> Verdict
+fn values(s: &[u8], cells: &mut [i64], c: Setting, p: Precinct, slot: usize, parts: Parts) -> Signed
     requires { ⌜ Working (now s) c p slot (length (now cells)) × IsParts (now s) c p slot (parts .at) parts × (parts .past ≤ length (now s)) ⌝ }
-    ensures { λ r. ⌜ valuesBy (now (s .entry)) c p slot (parts .at) Fine (now (cells .entry)) ≡ (r, now (cells .exit)) ⌝ }
+    ensures { λ r. ⌜ IsSigned (now (s .entry)) c p slot (parts .at) Fine (now (cells .entry)) r (now (cells .exit)) ⌝ }
 {
     let a = parts.dat;
     let b = parts.sgn;
@@ -188,7 +219,10 @@ fn values(
     let sgn = &s[b..e];
     let next = passes::packet_values(dat, sgn, cells, c, p, slot);
     let used = bytes_of_bits(next.sign);
-    rows::one(Check(Row::Length, b, Field::Signs, e - b, used, AMPLE))
+    Signed {
+        verdict: rows::one(Check(Row::Length, b, Field::Signs, e - b, used, AMPLE)),
+        signs: used,
+    }
 }
 
 fn values_by(
@@ -199,13 +233,50 @@ fn values_by(
     p: Precinct,
     slot: usize,
     parts: Parts,
-) -> Verdict
+) -> Signed
     requires { ⌜ Working (now s) c p slot (length (now cells)) × IsParts (now s) c p slot (parts .at) parts × (v ≡ Fine → parts .past ≤ length (now s)) ⌝ }
-    ensures { λ r. ⌜ valuesBy (now (s .entry)) c p slot (parts .at) v (now (cells .entry)) ≡ (r, now (cells .exit)) ⌝ }
+    ensures { λ r. ⌜ IsSigned (now (s .entry)) c p slot (parts .at) v (now (cells .entry)) r (now (cells .exit)) ⌝ }
 {
     match v {
         Verdict::Fine => values(s, cells, c, p, slot, parts),
-        Verdict::Refused(_) => v,
+        Verdict::Refused(_) => Signed {
+            verdict: v,
+            signs: 0,
+        },
+    }
+}
+
+// The length of the data, which hold `bytes` bytes, and that of the signs.
+fn data_row(p: Precinct, parts: Parts, bytes: usize) -> Verdict
+    requires { ⌜ (parts .dat ≤ p .end) × (parts .dat ≤ parts .sgn) × (parts .sgn ≤ parts .past) ⌝ }
+    ensures { λ r. ⌜ r ≡ first (dataRow p parts bytes) ⌝ }
+{
+    let dat = parts.dat;
+    let sgn = parts.sgn;
+    let size = sgn - dat;
+    let left = less(p.end, sgn);
+    let signs = parts.past - sgn;
+    rows::first([
+        Check(Row::Length, dat, Field::Data, p.end - dat, size, AMPLE),
+        Check(Row::Length, dat, Field::Data, size, bytes, AMPLE),
+        Check(Row::Length, sgn, Field::Signs, left, signs, AMPLE),
+        HOLDS,
+        HOLDS,
+        HOLDS,
+        HOLDS,
+        HOLDS,
+    ])
+}
+
+// Counts that are refused: no content.
+fn none(v: Verdict) -> Content
+    ensures { λ r. ⌜ (r .verdict ≡ v) × (r .counts ≡ 0) × (r .«data» ≡ 0) × (r .signs ≡ 0) ⌝ }
+{
+    Content {
+        verdict: v,
+        counts: 0,
+        data: 0,
+        signs: 0,
     }
 }
 
@@ -218,36 +289,61 @@ fn after_counts(
     p: Precinct,
     slot: usize,
     parts: Parts,
-) -> Verdict
+) -> Content
     requires { ⌜ Working (now s) c p slot (length (now cells)) × IsParts (now s) c p slot (parts .at) parts × (parts .dat ≤ p .end) ⌝ }
-    ensures { λ r. ⌜ afterCounts (now (s .entry)) c p slot (parts .at) (line, now (cells .entry)) ≡ (r, now (cells .exit)) ⌝ }
+    ensures { λ r. ⌜ IsContent (now (s .entry)) c p slot (parts .at) (line, now (cells .entry)) r (now (cells .exit)) ⌝ }
 {
     let cnt = parts.cnt;
     let dat = parts.dat;
-    let sgn = parts.sgn;
     match line {
-        counts::Line::Done { next: _, need } => {
-            let size = sgn - dat;
+        counts::Line::Done { next, need } => {
             let bytes = bytes_of_nibbles(need);
-            let left = less(p.end, sgn);
-            let signs = parts.past - sgn;
-            let v = rows::first([
-                Check(Row::Length, dat, Field::Data, p.end - dat, size, AMPLE),
-                Check(Row::Length, dat, Field::Data, size, bytes, AMPLE),
-                Check(Row::Length, sgn, Field::Signs, left, signs, AMPLE),
-                HOLDS,
-                HOLDS,
-                HOLDS,
-                HOLDS,
-                HOLDS,
-            ]);
-            values_by(v, s, cells, c, p, slot, parts)
+            let v = data_row(p, parts, bytes);
+            let k = values_by(v, s, cells, c, p, slot, parts);
+            let w = k.verdict;
+            Content {
+                verdict: w,
+                counts: bytes_of_bits(next),
+                data: bytes,
+                signs: k.signs,
+            }
         }
         counts::Line::Cut => {
             let size = dat - cnt;
-            rows::one(Check(Row::Length, cnt, Field::Counts, size, size + 1, AMPLE))
+            none(rows::one(Check(Row::Length, cnt, Field::Counts, size, size + 1, AMPLE)))
         }
-        counts::Line::High => rows::one(Check(Row::Count, cnt, Field::Counts, 32, 0, 31)),
+        counts::Line::High => none(rows::one(Check(Row::Count, cnt, Field::Counts, 32, 0, 31))),
+    }
+}
+
+// Where the bytes of a packet went whose subpackets have contents of so many bytes.
+fn bytes_of(parts: Parts, counts: usize, data: usize, signs: usize) -> Bytes
+    requires { ⌜ Holds parts counts «data» signs ⌝ }
+    ensures { λ r. ⌜ r ≡ partBytes parts counts «data» signs ⌝ }
+{
+    let fill = parts.dat - parts.cnt - counts;
+    let behind = parts.sgn - parts.dat - data;
+    Bytes {
+        markers: 0,
+        precincts: 0,
+        packets: parts.sig - parts.at,
+        significance: parts.cnt - parts.sig,
+        counts: counts,
+        data: data,
+        signs: signs,
+        filler: fill + behind + (parts.past - parts.sgn - signs),
+        spoilt: 0,
+    }
+}
+
+// The same by the verdict of the packet: nothing where it is refused.
+fn bytes_by(v: Verdict, parts: Parts, counts: usize, data: usize, signs: usize) -> Bytes
+    requires { ⌜ (v ≡ Fine → Holds parts counts «data» signs) ⌝ }
+    ensures { λ r. ⌜ r ≡ bytesBy v (partBytes parts counts «data» signs) ⌝ }
+{
+    match v {
+        Verdict::Fine => bytes_of(parts, counts, data, signs),
+        Verdict::Refused(_) => NOTHING,
     }
 }
 
@@ -279,16 +375,24 @@ fn counts_by(
     p: Precinct,
     slot: usize,
     parts: Parts,
-) -> Verdict
+) -> Passed
     requires { ⌜ Working (now s) c p slot (length (now cells)) × IsParts (now s) c p slot (parts .at) parts × (v ≡ Fine → parts .dat ≤ p .end) ⌝ }
-    ensures { λ r. ⌜ countsBy (now (s .entry)) c p slot (parts .at) v (now (cells .entry)) ≡ (r, now (cells .exit)) ⌝ }
+    ensures { λ r. ⌜ IsPassed (now (s .entry)) c p slot (parts .at) v (now (cells .entry)) r (now (cells .exit)) ⌝ }
 {
     match v {
         Verdict::Fine => {
             let line = counts_of(s, cells, c, p, slot, parts);
-            after_counts(line, s, cells, c, p, slot, parts)
+            let k = after_counts(line, s, cells, c, p, slot, parts);
+            let w = k.verdict;
+            Passed {
+                verdict: w,
+                bytes: bytes_by(w, parts, k.counts, k.data, k.signs),
+            }
         }
-        Verdict::Refused(_) => v,
+        Verdict::Refused(_) => Passed {
+            verdict: v,
+            bytes: NOTHING,
+        },
     }
 }
 
@@ -308,10 +412,13 @@ pub fn packet(
     let o = open(s, c, p, slot, at, raws);
     let v = o.verdict;
     let parts = o.parts;
-    let verdict = counts_by(v, s, cells, c, p, slot, parts);
+    let k = counts_by(v, s, cells, c, p, slot, parts);
+    let w = k.verdict;
+    let bytes = k.bytes;
     Outcome {
-        verdict: verdict,
+        verdict: w,
         dr: o.dr,
         past: parts.past,
+        bytes: bytes,
     }
 }

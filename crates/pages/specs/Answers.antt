@@ -1,8 +1,10 @@
 -- What must be answered for the streams that are read, and the samples that must be handed over. Decoders that were written from the standard and document 01,
--- independently of each other and of these definitions, agree on it (crates/vectors/README.md); precision and caption are those of tests/independent.
+-- independently of each other and of these definitions, agree on it (crates/vectors/README.md); precision, caption and where the bytes went are those of
+-- tests/independent.
 use mathlib.Core.Bool.{true, false}
 use mathlib.Core.List.{List, [], _∷_}
 use Prim.Native.Nat.{ℕ}
+use Rattle.pieces.specs.declared.Bytes.{Bytes}
 use Rattle.reader.specs.declared.page.Page.{Page}
 
 -- the record of a page, and the samples that are handed over
@@ -23,6 +25,7 @@ coloursRead =
             height = 3 ∷ 3 ∷ 3 ∷ 0 ∷ [];
             precision = 12 ∷ 10 ∷ 14 ∷ 0 ∷ [];
             distance = 290 ∷ 49 ∷ 1462 ∷ 0 ∷ [];
+            bytes = record { markers = 126; precincts = 16; packets = 30; significance = 0; counts = 9; «data» = 9; signs = 4; filler = 0; spoilt = 0 };
           };
       samples =
           2134 ∷ 2089 ∷ 2062 ∷
@@ -50,6 +53,7 @@ fourComponentsRead =
             height = 1 ∷ 1 ∷ 1 ∷ 1 ∷ [];
             precision = 16 ∷ 16 ∷ 16 ∷ 16 ∷ [];
             distance = 65535 ∷ 65535 ∷ 65535 ∷ 65535 ∷ [];
+            bytes = record { markers = 170; precincts = 7; packets = 7; significance = 0; counts = 2; «data» = 4; signs = 1; filler = 0; spoilt = 0 };
           };
       samples =
           0 ∷ 0 ∷ 0 ∷ 0 ∷ 0 ∷ 0 ∷ 32768 ∷ 32768 ∷
@@ -72,6 +76,7 @@ twoColumnsRead =
             height = 4 ∷ 2 ∷ 2 ∷ 0 ∷ [];
             precision = 8 ∷ 8 ∷ 8 ∷ 0 ∷ [];
             distance = 0 ∷ 0 ∷ 0 ∷ 0 ∷ [];
+            bytes = record { markers = 90; precincts = 20; packets = 100; significance = 11; counts = 82; «data» = 247; signs = 57; filler = 8; spoilt = 0 };
           };
       samples =
           133 ∷ 134 ∷ 143 ∷ 140 ∷ 149 ∷ 143 ∷ 147 ∷ 149 ∷ 159 ∷ 164 ∷ 162 ∷ 163 ∷ 166 ∷ 169 ∷ 177 ∷ 176 ∷ 184 ∷ 178 ∷ 183 ∷ 187 ∷ 196 ∷ 194 ∷ 199 ∷ 206 ∷ 200 ∷
@@ -122,6 +127,7 @@ widthFiveRead =
             height = 3 ∷ 2 ∷ 2 ∷ 0 ∷ [];
             precision = 9 ∷ 9 ∷ 9 ∷ 0 ∷ [];
             distance = 0 ∷ 0 ∷ 0 ∷ 0 ∷ [];
+            bytes = record { markers = 96; precincts = 10; packets = 40; significance = 4; counts = 13; «data» = 44; signs = 0; filler = 3; spoilt = 0 };
           };
       samples =
           266 ∷ 261 ∷ 274 ∷ 266 ∷ 287 ∷
@@ -147,6 +153,7 @@ predictedRead =
             height = 5 ∷ 0 ∷ 0 ∷ 0 ∷ [];
             precision = 13 ∷ 0 ∷ 0 ∷ 0 ∷ [];
             distance = 0 ∷ 0 ∷ 0 ∷ 0 ∷ [];
+            bytes = record { markers = 66; precincts = 14; packets = 65; significance = 0; counts = 13; «data» = 29; signs = 0; filler = 10; spoilt = 0 };
           };
       samples =
           4072 ∷ 4080 ∷ 4090 ∷ 4090 ∷
@@ -170,6 +177,7 @@ uniformRead =
             height = 4 ∷ 0 ∷ 0 ∷ 0 ∷ [];
             precision = 12 ∷ 0 ∷ 0 ∷ 0 ∷ [];
             distance = 24 ∷ 0 ∷ 0 ∷ 0 ∷ [];
+            bytes = record { markers = 170; precincts = 14; packets = 56; significance = 4; counts = 12; «data» = 82; signs = 10; filler = 0; spoilt = 0 };
           };
       samples =
           3360 ∷ 3282 ∷ 3223 ∷ 3043 ∷ 2859 ∷ 2642 ∷ 2542 ∷ 3004 ∷ 2947 ∷ 3089 ∷ 3129 ∷ 3246 ∷
@@ -214,3 +222,8 @@ coarseColoursDistances =
     1 ∷ 1 ∷ 1 ∷ 1 ∷ 1 ∷ 1 ∷
     2 ∷ 2 ∷ 2 ∷ 2 ∷ 2 ∷ 2 ∷
     []
+
+-- ---- where the bytes went of a damaged page, whose second slice is spoilt
+
+abbrev pub predictedAtTopBytes : Bytes
+predictedAtTopBytes = record { markers = 62; precincts = 6; packets = 5; significance = 0; counts = 1; «data» = 0; signs = 0; filler = 0; spoilt = 13 }

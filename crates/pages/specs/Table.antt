@@ -1,11 +1,14 @@
 -- Whole pages: for each stream what the definitions of a reading give, and what it must be.
-use mathlib.Core.Bool.{false}
+use mathlib.Core.Bool.{Bool, false}
 use mathlib.Core.List.{List, [], _∷_}
 use mathlib.Core.Path.{_≡_}
 use Prim.Native.Nat.{ℕ, _*_}
 use lib.ListN.{length, replicate}
+use Rattle.pieces.specs.declared.Bytes.{Bytes}
+use Rattle.pieces.specs.Pieces.{bytesOf, nothing}
 use Rattle.reader.specs.Decoding.{handed, coefficients}
 use Rattle.reader.specs.Page.{headerOf, verdict, pageOf, samplesBy}
+use Rattle.reader.specs.Modes.{piecesIn}
 use Rattle.reader.specs.Places.{distancePlane}
 use Rattle.pages.specs.Streams.{colours, fourComponents, twoColumns, widthFive, predicted, uniform, cut, trailing, sampledColour, keptOut, pastPrecinct, highCount, predictedAtTop, mixedRaw}
 use Rattle.pages.specs.Answers.{Reading, coloursRead, fourComponentsRead, twoColumnsRead, widthFiveRead, predictedRead, uniformRead}
@@ -40,6 +43,7 @@ isRefused s a w number place =
                   height = replicate 4 0;
                   precision = replicate 4 0;
                   distance = replicate 4 0;
+                  bytes = nothing;
                 };
             samples = [];
           };
@@ -47,11 +51,10 @@ isRefused s a w number place =
 
 -- the last two numbers of a refused page are document 01's number and the place. Its program lends 2,048 and 4,096 cells; row 5 is met by one cell too few of
 -- either kind
-unfoldable pub table : List Row
-table =
+unfoldable pub smaller : List Row
+smaller =
     isRead colours coloursRead
     ∷ isRead fourComponents fourComponentsRead
-    ∷ isRead twoColumns twoColumnsRead
     ∷ isRead widthFive widthFiveRead
     ∷ isRead predicted predictedRead
     ∷ isRead uniform uniformRead
@@ -66,6 +69,10 @@ table =
     ∷ isRefused predictedAtTop 2048 4096 8 77
     ∷ isRefused mixedRaw 2048 4096 8 113
     ∷ []
+
+-- with the largest page
+unfoldable pub table : List Row
+table = isRead twoColumns twoColumnsRead ∷ smaller
 
 -- what the definitions give: the record, and the samples that stand in front in the lent cells
 abbrev pub readBy : Row → Reading
@@ -88,3 +95,8 @@ says (r ∷ rs) = r .says ∷ says rs
 
 abbrev pub HasDistances : List ℕ → List ℕ → Type 0
 HasDistances s distances = distancePlane s (headerOf s) false ≡ distances
+
+-- ---- document 02, C-16: the definitions have the bytes of a stream go there, in either mode
+
+abbrev pub HasBytes : Bool → List ℕ → Bytes → Type 0
+HasBytes damaged s bytes = bytesOf (piecesIn s (headerOf s) damaged) ≡ bytes

@@ -9,6 +9,7 @@ use Rattle.rows.specs.declared.Verdict.{Verdict}
 use Rattle.rows.specs.declared.Verdict.the-variants.{Fine, Refused}
 use Rattle.header.specs.Header.{readingOf}
 use Rattle.header.specs.declared.header.Header.{Header}
+use Rattle.pieces.specs.declared.Bytes.{Bytes}
 use Rattle.reader.specs.Settings.{N}
 use Rattle.reader.specs.Page.{pageOf, Reads}
 use Rattle.reader.specs.Modes.{pageIn, ReadsDamaged}
@@ -21,10 +22,15 @@ use Rattle.reader.specs.declared.page.Page.{Page}
 abbrev pub cellsFor : Page → ℕ → List ℕ
 cellsFor p i = getD (p .width) i 0 ∷ getD (p .height) i 0 ∷ getD (p .precision) i 0 ∷ getD (p .distance) i 0 ∷ []
 
+-- where the bytes of the stream went, in the order of C-16
+abbrev pub totalCells : Bytes → List ℕ
+totalCells t =
+    t .markers ∷ t .precincts ∷ t .packets ∷ t .significance ∷ t .counts ∷ t .«data» ∷ t .signs ∷ t .filler ∷ t .spoilt ∷ []
+
 abbrev pub cellsOf : Page → List ℕ
 cellsOf p =
     (p .answer ∷ p .place ∷ p .components ∷ cond (p .caption) 1 0 ∷ [])
-    ++ (cellsFor p 0 ++ (cellsFor p 1 ++ (cellsFor p 2 ++ cellsFor p 3)))
+    ++ (cellsFor p 0 ++ (cellsFor p 1 ++ (cellsFor p 2 ++ (cellsFor p 3 ++ totalCells (p .bytes)))))
 
 -- a reading of the stream s into the samples a, by the work cells w: the record as cells, and both buffers behind it
 pub record Handed (s a : List ℕ) (w : List ℤ) (cells a′ : List ℕ) (w′ : List ℤ) : Type 0 where

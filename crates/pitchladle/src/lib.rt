@@ -19,14 +19,16 @@ fn flag(b: bool) -> u64
     if b { 1 } else { 0 }
 }
 
-// The record as it crosses: answer, place, component count, caption, and width, height, precision and distance of each of four components.
-fn cells_of(p: Page) -> [u64; 20]
+// The record as it crosses: answer, place, component count, caption, width, height, precision and distance of each of four components, and the nine totals of
+// bytes.
+fn cells_of(p: Page) -> [u64; 29]
     ensures { λ r. ⌜ r ≡ cellsOf p ⌝ }
 {
     let w = p.width;
     let h = p.height;
     let b = p.precision;
     let d = p.distance;
+    let t = p.bytes;
     [
         p.answer as u64,
         p.place as u64,
@@ -48,6 +50,15 @@ fn cells_of(p: Page) -> [u64; 20]
         h[3] as u64,
         b[3] as u64,
         d[3] as u64,
+        t.markers as u64,
+        t.precincts as u64,
+        t.packets as u64,
+        t.significance as u64,
+        t.counts as u64,
+        t.data as u64,
+        t.signs as u64,
+        t.filler as u64,
+        t.spoilt as u64,
     ]
 }
 
@@ -57,7 +68,7 @@ pub extern "C" fn pitchladle_read(
     stream: &[u8],
     samples: &mut [u16],
     work: &mut [i64],
-    cells: &mut [u64; 20],
+    cells: &mut [u64; 29],
 )
     ensures { λ _. ⌜ Handed (now (stream .entry)) (now (samples .entry)) (now (work .entry)) (now (cells .exit)) (now (samples .exit)) (now (work .exit)) ⌝ }
 {
@@ -72,7 +83,7 @@ pub extern "C" fn pitchladle_read_damaged(
     samples: &mut [u16],
     work: &mut [i64],
     marks: &mut [u8],
-    cells: &mut [u64; 20],
+    cells: &mut [u64; 29],
 )
     ensures { λ _. ⌜ HandedDamaged (now (stream .entry)) (now (samples .entry)) (now (work .entry)) (now (marks .entry)) (now (cells .exit)) (now (samples .exit)) (now (work .exit)) (now (marks .exit)) ⌝ }
 {
@@ -87,7 +98,7 @@ pub extern "C" fn pitchladle_read_places(
     samples: &mut [u16],
     work: &mut [i64],
     distances: &mut [u16],
-    cells: &mut [u64; 20],
+    cells: &mut [u64; 29],
 )
     ensures { λ _. ⌜ HandedPlaces (now (stream .entry)) (now (samples .entry)) (now (work .entry)) (now (distances .entry)) (now (cells .exit)) (now (samples .exit)) (now (work .exit)) (now (distances .exit)) ⌝ }
 {
@@ -103,7 +114,7 @@ pub extern "C" fn pitchladle_read_damaged_places(
     work: &mut [i64],
     marks: &mut [u8],
     distances: &mut [u16],
-    cells: &mut [u64; 20],
+    cells: &mut [u64; 29],
 )
     ensures { λ _. ⌜ HandedDamagedPlaces (now (stream .entry)) (now (samples .entry)) (now (work .entry)) (now (marks .entry)) (now (distances .entry)) (now (cells .exit)) (now (samples .exit)) (now (work .exit)) (now (marks .exit)) (now (distances .exit)) ⌝ }
 {

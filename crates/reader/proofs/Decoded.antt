@@ -1,7 +1,7 @@
 -- What the slices leave behind an accepted header, in either mode. Assumes nothing.
 use mathlib.Core.Path.{_≡_, refl, sym, ap, _∙_, subst}
 use mathlib.Core.Bool.{Bool, true, false, cond}
-use mathlib.Core.List.{List, []}
+use mathlib.Core.List.{List, [], _∷_, _++_}
 use Prim.Native.Nat.{ℕ, _+_, _*_, _^_, _≤_, _<_}
 use native.Mathlib.Omega.{arith}
 use lib.IntN.{ℤ, pos}
@@ -11,6 +11,10 @@ use Rattle.whole.specs.Cells.{cell, Bounded}
 use Rattle.whole.proofs.Lists.{replicated}
 use Rattle.rows.specs.declared.Verdict.{Verdict}
 use Rattle.rows.specs.declared.Verdict.the-variants.{Fine, Refused}
+use Rattle.pieces.specs.declared.Bytes.{Bytes}
+use Rattle.pieces.specs.Pieces.{Markers, bytesOf, bytesBy, plus, all}
+use Rattle.pieces.proofs.Laws.{bytes-append, piece-once}
+use Rattle.header.specs.Pieces.{headerPieces}
 use Rattle.header.specs.declared.header.Header.{Header}
 use Rattle.shapes.specs.Shapes.{shapeOf}
 use Rattle.layout.specs.declared.Shape.{Shape}
@@ -23,15 +27,19 @@ use Rattle.slices.specs.Slice.{State, Left}
 use Rattle.slices.specs.Stream.{stream}
 use Rattle.slices.specs.Steps.{Lent}
 use Rattle.slices.proofs.Laws.{Few, stream-length, stream-bounded, stream-few}
+use Rattle.slices.specs.declared.Reading.{Reading}
 use Rattle.damage.specs.Stream.{streamBy}
+use Rattle.damage.specs.Pieces.{streamPiecesBy}
+use Rattle.damage.specs.Steps.{Streamed}
+use Rattle.damage.proofs.Pieces.{stream-few as bytes-in-stream}
 use Rattle.damage.proofs.Laws.{damaged-length, damaged-bounded, damaged-few}
 use Rattle.planes.specs.Places.{coefficientsIn, Inside}
 use Rattle.planes.proofs.Stretches.{offset-below}
 use Rattle.reader.specs.declared.page.Page.{Page}
 use Rattle.reader.specs.Settings.{settingOf, N}
 use Rattle.reader.specs.Decoding.{handed, distancesFrom, begun}
-use Rattle.reader.specs.Page.{pageBy}
-use Rattle.reader.specs.Modes.{decodedBy, topsIn, lostMarks}
+use Rattle.reader.specs.Page.{pageRead, pageBy}
+use Rattle.reader.specs.Modes.{decodedBy, topsIn, piecesIn, lostMarks}
 use Rattle.reader.specs.Places.{distancePlane}
 use Rattle.reader.specs.Steps.{Opened, Decoded, IsSetting, Markable, PlaceableBy, filledBy, Shows, marksFrom, MarkedIn, PlacedIn, DecodesBy}
 use Rattle.reader.proofs.Lost.{marks-told}
@@ -113,6 +121,29 @@ module _ (s : List ℕ) (h : Header) (damaged : Bool) where
       let zeros = f ∙ ap (λ (m : ℕ). replicate m (pos 0)) g in
       (λ i. streamBy s (sym e i) damaged (h .slice, replicate 40 0, sym zeros i)) ∙ st
 
+-- where the bytes of the page went: those of its header and of its slices
+module _ {s : List ℕ} {h : Header} (o : Opened s h) (damaged : Bool) {c : Setting} {w cells : List ℤ} {n : ℕ} {r : Reading} (e : c ≡ settingOf h) (f : w ≡ replicate n (pos 0)) (g : n ≡ 2 * N h)
+    (st : Streamed (streamBy s c damaged (h .slice, replicate 40 0, w)) (streamPiecesBy s c damaged (h .slice, replicate 40 0, w)) r cells) where
+  -- they are few
+  pub bytes-few : all (bytesOf ((Markers, h .slice) ∷ [])) + all (r .bytes) < 2 ^ 64
+  bytes-few =
+      omega (arith, piece-once Markers (h .slice), o .accepted .slice, o .accepted .short, bytes-in-stream s c damaged (h .slice, replicate 40 0, w) st (o .accepted .short))
+
+  pub bytes-are : {b : Bytes} → b ≡ plus (bytesOf ((Markers, h .slice) ∷ [])) (r .bytes) → bytesBy (r .verdict) b ≡ bytesBy (r .verdict) (bytesOf (piecesIn s h damaged))
+  unfolding piecesIn
+  bytes-are {b} k = by (r .verdict) (st .bytes)
+    where
+      begins : (h .slice, replicate 40 0, w) ≡ begun h
+      begins = λ i. (h .slice, replicate 40 0, (f ∙ ap (λ (m : ℕ). replicate m (pos 0)) g) i)
+
+      by : (v : Verdict) → r .bytes ≡ bytesBy v (bytesOf (streamPiecesBy s c damaged (h .slice, replicate 40 0, w)))
+          → bytesBy v b ≡ bytesBy v (bytesOf (headerPieces s ++ streamPiecesBy s (settingOf h) damaged (begun h)))
+      by Fine q =
+          k
+          ∙ (λ i. plus (sym (o .bytes) i) ((q ∙ (λ j. bytesOf (streamPiecesBy s (e j) damaged (begins j)))) i))
+          ∙ sym (bytes-append (headerPieces s) (streamPiecesBy s (settingOf h) damaged (begun h)))
+      by (Refused x) q = refl
+
 module _ {s : List ℕ} {h : Header} (o : Opened s h) (damaged : Bool) {v : Verdict} {at : ℕ} {t : List ℕ} {w′ : List ℤ} (p : decodedBy s h damaged ≡ (v, (at, t, w′))) where
   pub shown-of : (a : ℕ) → a ≡ N h → Decoded h a t w′
   shown-of a room = subst (λ (z : Left). Decoded h a (z .1 .1) (z .1 .2)) p (decoded-is o damaged a room)
@@ -120,19 +151,24 @@ module _ {s : List ℕ} {h : Header} (o : Opened s h) (damaged : Bool) {v : Verd
   left-long : length w′ ≡ 2 * N h
   left-long = ap (λ (z : Left). length (z .1 .2)) (sym p) ∙ decoded-long o damaged
 
-  pub marked-of : {r : Page} {a a′ : List ℕ} {w″ : List ℤ} → Shows v h t a w′ r a′ w″ → Markable h (N h) w″
+  pub marked-of : {b : Bytes} {r : Page} {a a′ : List ℕ} {w″ : List ℤ} → Shows v h t b a w′ r a′ w″ → Markable h (N h) w″
   marked-of q = record { ranges = o .accepted .ranges; built = o .shape; enough = omega (arith, q .same, left-long); room = refl }
 
   -- the marks that the count cells give are those of the lost coefficients
-  module _ {r : Page} {a a′ : List ℕ} {w″ : List ℤ} (q : Shows v h t a w′ r a′ w″) (m : List ℕ) where
+  module _ {b : Bytes} {r : Page} {a a′ : List ℕ} {w″ : List ℤ} (q : Shows v h t b a w′ r a′ w″) (m : List ℕ) where
     marks-right : filledBy v (cond damaged (marksFrom h w″) []) m ≡ filledBy v (cond damaged (lostMarks s h) []) m
     marks-right = by v damaged p q
       where
-        by : (v : Verdict) (damaged : Bool) → decodedBy s h damaged ≡ (v, (at, t, w′)) → Shows v h t a w′ r a′ w″
+        by : (v : Verdict) (damaged : Bool) → decodedBy s h damaged ≡ (v, (at, t, w′)) → Shows v h t b a w′ r a′ w″
             → filledBy v (cond damaged (marksFrom h w″) []) m ≡ filledBy v (cond damaged (lostMarks s h) []) m
         by (Refused k) damaged p q = refl
         by Fine false p q = refl
         by Fine true p q = marks-told o (λ i. p i .0) w″ (λ n far. q .other n far ∙ (λ i. cell (sym p i .1 .2) n))
+
+    -- the totals count where the page is read
+    page-bytes : (v : Verdict) (b′ : Bytes) → bytesBy v b ≡ bytesBy v b′ → pageBy v h (distancesFrom h t) b ≡ pageBy v h (distancesFrom h t) b′
+    page-bytes Fine b′ e = ap (pageRead h (distancesFrom h t)) e
+    page-bytes (Refused k) b′ e = refl
 
     -- where the marks are made
     module _ (placed : Bool) {w‴ : List ℤ} {m′ : List ℕ} (k : MarkedIn v damaged h w″ w‴ m m′) where
@@ -146,13 +182,13 @@ module _ {s : List ℕ} {h : Header} (o : Opened s h) (damaged : Bool) {v : Verd
             room = room;
           }
 
-      pub decodes : {w w⁗ w⁵ : List ℤ} {d d′ : List ℕ} → length w ≡ 2 * N h → PlacedIn v damaged placed s h w‴ w⁗ d d′ → w⁵ ≡ replicate (length w⁗) (pos 0)
+      pub decodes : {w w⁗ w⁵ : List ℤ} {d d′ : List ℕ} → bytesBy v b ≡ bytesBy v (bytesOf (piecesIn s h damaged)) → length w ≡ 2 * N h → PlacedIn v damaged placed s h w‴ w⁗ d d′ → w⁵ ≡ replicate (length w⁗) (pos 0)
           → DecodesBy damaged placed s h a w m d r a′ w⁵ m′ d′
-      decodes {d = d} l t e =
+      decodes {d = d} same l t e =
           record {
             beside =
                 record {
-                  page = q .page ∙ (λ i. pageBy (sym p i .0) h (distancesFrom h (sym p i .1 .1)));
+                  page = q .page ∙ page-bytes v (bytesOf (piecesIn s h damaged)) same ∙ (λ i. pageBy (sym p i .0) h (distancesFrom h (sym p i .1 .1)) (bytesOf (piecesIn s h damaged)));
                   samples = q .samples ∙ (λ i. filledBy (sym p i .0) (handed h (coefficientsIn (shapeOf h) (sym p i .1 .2))) a);
                   work = e ∙ ap (λ (n : ℕ). replicate n (pos 0)) (t .same ∙ k .same ∙ q .same ∙ left-long ∙ sym l);
                   marks = k .marks ∙ marks-right ∙ (λ i. filledBy (sym p i .0) (cond damaged (lostMarks s h) []) m);

@@ -20,14 +20,16 @@ use Rattle.header.specs.declared.header.Header.{Header}
 use Rattle.shapes.specs.Shapes.{shapeOf}
 use Rattle.planes.proofs.Planes.{planes-length}
 use Rattle.damage.specs.Stream.{streamBy}
+use Rattle.damage.specs.Pieces.{streamPiecesBy}
 use Rattle.slices.specs.Stream.{stream}
+use Rattle.slices.specs.Pieces.{streamPieces}
 use Rattle.planes.specs.Values.{Coefficients}
 use Rattle.planes.specs.Marks.{bit}
 use Rattle.reader.specs.declared.page.Page.{Page}
 use Rattle.reader.specs.Settings.{N, roomChecks}
-use Rattle.reader.specs.Decoding.{samplesFrom, handed, decoded}
+use Rattle.reader.specs.Decoding.{samplesFrom, handed, decoded, pieces}
 use Rattle.reader.specs.Page.{headerOf, lentVerdict, verdict, samplesBy, pageRefused, Reads}
-use Rattle.reader.specs.Modes.{decodedBy, verdictIn, coefficientsOf, lostSample, lostMarks, roomChecksIn, lentVerdictIn, verdictOf, ReadsDamaged}
+use Rattle.reader.specs.Modes.{decodedBy, verdictIn, piecesIn, coefficientsOf, lostSample, lostMarks, roomChecksIn, lentVerdictIn, verdictOf, ReadsDamaged}
 use Rattle.reader.specs.Places.{distanceIn, distancePlane, roomChecksBy, lentVerdictBy, verdictBy, LeavesBy, ReadsBy, ReadsPlaces}
 use Rattle.reader.specs.Steps.{filledBy, DecodesBy}
 
@@ -122,7 +124,7 @@ none-left Fine = refl
 none-left (Refused k) = refl
 
 pub reads-plain : {s a a′ : List ℕ} {w w′ : List ℤ} {m′ d′ : List ℕ} {r : Page} → ReadsBy false false s a w [] [] r a′ w′ m′ d′ → Reads s a w r a′ w′
-unfolding lentVerdictBy verdictBy decodedBy streamBy lentVerdict verdict decoded stream
+unfolding lentVerdictBy verdictBy decodedBy streamBy lentVerdict verdict decoded stream piecesIn streamPiecesBy pieces streamPieces
 reads-plain x = record { page = x .beside .page; samples = x .beside .samples; work = x .beside .work }
 
 pub reads-damaged : {s a m a′ m′ : List ℕ} {w w′ : List ℤ} {d′ : List ℕ} {r : Page} → ReadsBy true false s a w m [] r a′ w′ m′ d′ → ReadsDamaged s a w m r a′ w′ m′

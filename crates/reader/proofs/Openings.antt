@@ -18,6 +18,7 @@ use Rattle.header.specs.Header.{readingOf}
 use Rattle.header.specs.Accepted.{Ranges, Sampled}
 use Rattle.header.specs.declared.header.Header.{Header}
 use Rattle.header.proofs.Accepted.{accepted-header}
+use Rattle.header.proofs.Pieces.{header-bytes-are}
 use Rattle.shapes.specs.Shapes.{shapeOf}
 use Rattle.shapes.proofs.Accepted.{built}
 use Rattle.packets.specs.Ready.{Settled}
@@ -28,7 +29,7 @@ use Rattle.reader.specs.Steps.{Opened}
 use Rattle.reader.specs.declared.records.Size.{Size}
 
 pub opened : (s : List ℕ) → readingOf s .verdict ≡ Fine → Opened s (readingOf s .header)
-opened s e = record { accepted = accepted-header s e; shape = built s e }
+opened s e = record { accepted = accepted-header s e; shape = built s e; bytes = header-bytes-are s e }
 
 -- ---- Table A.8
 

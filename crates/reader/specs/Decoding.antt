@@ -1,13 +1,16 @@
 -- What stands behind an accepted header: coefficients, each band's largest T, samples and distances.
-use mathlib.Core.List.{List}
+use mathlib.Core.List.{List, _++_}
 use Prim.Native.Nat.{ℕ, _*_}
 use lib.IntN.{ℤ, pos}
 use lib.ListN.{replicate}
 use Rattle.rows.specs.declared.Verdict.{Verdict}
+use Rattle.pieces.specs.Pieces.{Piece}
+use Rattle.header.specs.Pieces.{headerPieces}
 use Rattle.header.specs.declared.header.Header.{Header}
 use Rattle.shapes.specs.Shapes.{shapeOf}
 use Rattle.slices.specs.Slice.{State, Left}
 use Rattle.slices.specs.Stream.{stream}
+use Rattle.slices.specs.Pieces.{streamPieces}
 use Rattle.planes.specs.Values.{Coefficients, Values, samplesOf, planes}
 use Rattle.planes.specs.Places.{coefficientsIn}
 use Rattle.distances.specs.Rule.{distancesOf}
@@ -51,3 +54,7 @@ module _ (s : List ℕ) (h : Header) where
 
   abbrev pub coefficients : Coefficients
   coefficients = coefficientsIn (shapeOf h) cells
+
+  -- document 02, C-16: the pieces of the whole stream
+  unfoldable pub pieces : List Piece
+  pieces = headerPieces s ++ streamPieces s (settingOf h) (begun h)

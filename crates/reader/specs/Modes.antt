@@ -11,11 +11,14 @@ use Rattle.rows.specs.declared.Row.the-variants.{Lent}
 use Rattle.rows.specs.declared.Field.the-variants.{Marks}
 use Rattle.rows.specs.declared.Verdict.{Verdict}
 use Rattle.layout.specs.Precincts.{slice-with}
+use Rattle.pieces.specs.Pieces.{Piece, bytesOf}
 use Rattle.header.specs.Header.{readingOf}
+use Rattle.header.specs.Pieces.{headerPieces}
 use Rattle.header.specs.declared.header.Header.{Header}
 use Rattle.shapes.specs.Shapes.{shapeOf}
 use Rattle.slices.specs.Slice.{Left}
 use Rattle.damage.specs.Stream.{streamBy, spoilt}
+use Rattle.damage.specs.Pieces.{streamPiecesBy}
 use Rattle.planes.specs.Values.{Bands, Coefficients, Values, planes}
 use Rattle.planes.specs.Marks.{markOf, bit}
 use Rattle.planes.specs.Places.{coefficientsIn}
@@ -42,6 +45,10 @@ module _ (s : List ℕ) (h : Header) where
   -- the largest T of each band: of a damaged page over its unspoilt slices
   abbrev pub topsIn : Bool → List ℕ
   topsIn damaged = decodedBy damaged .1 .1
+
+  -- document 02, C-16: the pieces of the whole stream
+  unfoldable pub piecesIn : Bool → List Piece
+  piecesIn damaged = headerPieces s ++ streamPiecesBy s (settingOf h) damaged (begun h)
 
   -- the coefficients: 0 where they are lost
   abbrev pub coefficientsOf : Bool → Coefficients
@@ -79,12 +86,12 @@ verdictOf damaged s a w m = then (lentVerdictIn damaged s a w m) (verdictIn s (h
 
 -- the record
 abbrev pub pageIn : Bool → List ℕ → ℕ → ℕ → ℕ → Page
-pageIn damaged s a w m = pageBy (verdictOf damaged s a w m) (headerOf s) (distancesFrom (headerOf s) (topsIn s (headerOf s) damaged))
+pageIn damaged s a w m = pageBy (verdictOf damaged s a w m) (headerOf s) (distancesFrom (headerOf s) (topsIn s (headerOf s) damaged)) (bytesOf (piecesIn s (headerOf s) damaged))
 
 -- ---- what is left: `lent` is the verdict by row 5, and `all` that of the whole stream. The samples a, the work cells w and the marks m become a′, w′ and m′
 
 pub record LeavesIn (damaged : Bool) (s : List ℕ) (h : Header) (lent all : Verdict) (a : List ℕ) (w : List ℤ) (m : List ℕ) (r : Page) (a′ : List ℕ) (w′ : List ℤ) (m′ : List ℕ) : Type 0 where
-  pub page : r ≡ pageBy all h (distancesFrom h (topsIn s h damaged))
+  pub page : r ≡ pageBy all h (distancesFrom h (topsIn s h damaged)) (bytesOf (piecesIn s h damaged))
   pub samples : a′ ≡ samplesBy all (handed h (coefficientsOf s h damaged)) a
   pub work : w′ ≡ workBy lent (2 * N h) w
   -- 'a page answered other than 0 leaves the plane unchanged', and a plain reading has none

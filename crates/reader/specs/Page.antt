@@ -12,10 +12,12 @@ use Rattle.layout.specs.Bands.{Wc, Hc}
 use Rattle.header.specs.Header.{readingOf}
 use Rattle.header.specs.declared.header.Header.{Header}
 use Rattle.shapes.specs.Shapes.{shapeOf}
+use Rattle.pieces.specs.declared.Bytes.{Bytes}
+use Rattle.pieces.specs.Pieces.{nothing, bytesOf}
 use Rattle.distances.specs.Rule.{ofFour}
 use Rattle.reader.specs.declared.page.Page.{Page}
 use Rattle.reader.specs.Settings.{depthOf, N, roomChecks}
-use Rattle.reader.specs.Decoding.{handed, distancesFrom, decodedVerdict, tops, coefficients}
+use Rattle.reader.specs.Decoding.{handed, distancesFrom, decodedVerdict, tops, coefficients, pieces}
 
 -- ---- the verdict: 'checking runs from the front', and an earlier refusal stands
 
@@ -32,9 +34,9 @@ verdict s a w = then (lentVerdict s a w) (decodedVerdict s (headerOf s))
 
 -- ---- the record
 
--- 'for four components width, height, precision and distance. Unused components are all 0'; 'success gives Lcod'
-abbrev pub pageRead : Header → List ℕ → Page
-pageRead h distance =
+-- 'for four components width, height, precision and distance. Unused components are all 0'; 'success gives Lcod'; and, by document 02's C-16, where the bytes went
+abbrev pub pageRead : Header → List ℕ → Bytes → Page
+pageRead h distance bytes =
     record {
       answer = 0;
       place = h .picture .lcod;
@@ -44,9 +46,10 @@ pageRead h distance =
       height = ofFour (h .picture .nc) (Hc (shapeOf h));
       precision = ofFour (h .picture .nc) (depthOf h);
       distance = distance;
+      bytes = bytes;
     }
 
--- 'a refusal's record is 0 and "no" but for answer and place'
+-- 'a refusal's record is 0 and "no" but for answer and place'; C-16: 'On refusal all are 0'
 abbrev pub pageRefused : Verdict → Page
 pageRefused v =
     record {
@@ -58,15 +61,16 @@ pageRefused v =
       height = replicate 4 0;
       precision = replicate 4 0;
       distance = replicate 4 0;
+      bytes = nothing;
     }
 
-abbrev pub pageBy : Verdict → Header → List ℕ → Page
-pageBy Fine h distance = pageRead h distance
-pageBy (Refused c) h distance = pageRefused (Refused c)
+abbrev pub pageBy : Verdict → Header → List ℕ → Bytes → Page
+pageBy Fine h distance bytes = pageRead h distance bytes
+pageBy (Refused c) h distance bytes = pageRefused (Refused c)
 
 -- the record of a reading of s
 abbrev pub pageOf : List ℕ → ℕ → ℕ → Page
-pageOf s a w = pageBy (verdict s a w) (headerOf s) (distancesFrom (headerOf s) (tops s (headerOf s)))
+pageOf s a w = pageBy (verdict s a w) (headerOf s) (distancesFrom (headerOf s) (tops s (headerOf s))) (bytesOf (pieces s (headerOf s)))
 
 -- ---- the buffers
 
@@ -83,7 +87,7 @@ workBy (Refused c) n w = w
 -- ---- what is left by a reading of the stream s, of the header h: `lent` is the verdict by row 5, and `all` that of the whole stream. The samples a become
 -- a′, the work cells w become w′
 pub record Leaves (s : List ℕ) (h : Header) (lent all : Verdict) (a : List ℕ) (w : List ℤ) (r : Page) (a′ : List ℕ) (w′ : List ℤ) : Type 0 where
-  pub page : r ≡ pageBy all h (distancesFrom h (tops s h))
+  pub page : r ≡ pageBy all h (distancesFrom h (tops s h)) (bytesOf (pieces s h))
   pub samples : a′ ≡ samplesBy all (handed h (coefficients s h)) a
   pub work : w′ ≡ workBy lent (2 * N h) w
 

@@ -10,6 +10,7 @@ use Rattle.rows.specs.declared.Check.{Check}
 use Rattle.rows.specs.declared.Row.the-variants.{Lent}
 use Rattle.rows.specs.declared.Field.the-variants.{Distances}
 use Rattle.rows.specs.declared.Verdict.{Verdict}
+use Rattle.pieces.specs.Pieces.{bytesOf}
 use Rattle.header.specs.Header.{readingOf}
 use Rattle.header.specs.declared.header.Header.{Header}
 use Rattle.shapes.specs.Shapes.{shapeOf}
@@ -20,7 +21,7 @@ use Rattle.reader.specs.declared.page.Page.{Page}
 use Rattle.reader.specs.Settings.{settingOf, depthOf, N}
 use Rattle.reader.specs.Decoding.{distancesFrom}
 use Rattle.reader.specs.Page.{headerOf, pageBy, samplesBy}
-use Rattle.reader.specs.Modes.{verdictIn, topsIn, lostSample, roomChecksIn, LeavesIn}
+use Rattle.reader.specs.Modes.{verdictIn, topsIn, piecesIn, lostSample, roomChecksIn, LeavesIn}
 
 -- ---- the distances
 
@@ -51,7 +52,7 @@ verdictBy damaged placed s a w m d = then (lentVerdictBy damaged placed s a w m 
 
 -- the record
 abbrev pub pageWith : Bool → Bool → List ℕ → ℕ → ℕ → ℕ → ℕ → Page
-pageWith damaged placed s a w m d = pageBy (verdictBy damaged placed s a w m d) (headerOf s) (distancesFrom (headerOf s) (topsIn s (headerOf s) damaged))
+pageWith damaged placed s a w m d = pageBy (verdictBy damaged placed s a w m d) (headerOf s) (distancesFrom (headerOf s) (topsIn s (headerOf s) damaged)) (bytesOf (piecesIn s (headerOf s) damaged))
 
 -- ---- what is left, where the plane d becomes d′
 

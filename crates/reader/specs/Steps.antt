@@ -1,6 +1,6 @@
 -- What the steps of a reading ask and answer.
 use mathlib.Core.Bool.{Bool, true, false, cond}
-use mathlib.Core.List.{List, []}
+use mathlib.Core.List.{List, [], _∷_}
 use mathlib.Core.Path.{_≡_}
 use Prim.Native.Nat.{ℕ, _+_, _*_, _^_, _≤_, _<_}
 use lib.IntN.{ℤ, pos, negsuc}
@@ -8,12 +8,15 @@ use lib.ListN.{length, getD, replicate}
 use Rattle.rows.specs.declared.Verdict.{Verdict}
 use Rattle.rows.specs.declared.Verdict.the-variants.{Fine, Refused}
 use Rattle.whole.specs.Cells.{cell}
+use Rattle.pieces.specs.declared.Bytes.{Bytes}
+use Rattle.pieces.specs.Pieces.{Markers, bytesOf}
 use Rattle.wavelet.specs.Places.{bands}
 use Rattle.layout.specs.declared.Shape.{Shape}
 use Rattle.layout.specs.Bands.{Wc}
 use Rattle.layout.specs.Built.{Built}
 use Rattle.layout.specs.Cells.{area, start}
 use Rattle.header.specs.Accepted.{Ranges, Accepted}
+use Rattle.header.specs.Pieces.{headerPieces}
 use Rattle.header.specs.declared.header.Header.{Header}
 use Rattle.shapes.specs.Shapes.{shapeOf}
 use Rattle.packets.specs.declared.Setting.{Setting}
@@ -26,15 +29,16 @@ use Rattle.reader.specs.declared.page.Page.{Page}
 use Rattle.reader.specs.Settings.{settingOf, N}
 use Rattle.reader.specs.Decoding.{handed, distancesFrom}
 use Rattle.reader.specs.Page.{pageBy}
-use Rattle.reader.specs.Modes.{verdictIn, topsIn, coefficientsOf, lostMarks}
+use Rattle.reader.specs.Modes.{verdictIn, topsIn, piecesIn, coefficientsOf, lostMarks}
 use Rattle.reader.specs.Places.{placeDistance, distancePlane}
 
 -- ---- what is asked
 
--- the header of a stream that is accepted up to and with its first slice marker
+-- the header of a stream that is accepted up to and with its first slice marker: its bytes are markers and their segments
 pub record Opened (s : List ℕ) (h : Header) : Type 0 where
   pub accepted : Accepted s h
   pub shape : Built (shapeOf h)
+  pub bytes : bytesOf (headerPieces s) ≡ bytesOf ((Markers, h .slice) ∷ [])
 
 -- N samples, decoded cells, and each band's largest T
 pub record Decoded (h : Header) (samples : ℕ) (tops : List ℕ) (cells : List ℤ) : Type 0 where
@@ -77,8 +81,8 @@ filledBy Fine new a = new
 filledBy (Refused c) new a = a
 
 -- by the verdict v of what was decoded
-pub record Shows (v : Verdict) (h : Header) (tops a : List ℕ) (w : List ℤ) (r : Page) (a′ : List ℕ) (w′ : List ℤ) : Type 0 where
-  pub page : r ≡ pageBy v h (distancesFrom h tops)
+pub record Shows (v : Verdict) (h : Header) (tops : List ℕ) (bytes : Bytes) (a : List ℕ) (w : List ℤ) (r : Page) (a′ : List ℕ) (w′ : List ℤ) : Type 0 where
+  pub page : r ≡ pageBy v h (distancesFrom h tops) bytes
   pub samples : a′ ≡ filledBy v (handed h (coefficientsIn (shapeOf h) w)) a
   pub same : length w′ ≡ length w
   -- and with the count cells as they were
@@ -117,7 +121,7 @@ pub record PlacedIn (v : Verdict) (damaged placed : Bool) (s : List ℕ) (h : He
   pub same : length w′ ≡ length w
 
 pub record DecodesIn (damaged : Bool) (s : List ℕ) (h : Header) (a : List ℕ) (w : List ℤ) (m : List ℕ) (r : Page) (a′ : List ℕ) (w′ : List ℤ) (m′ : List ℕ) : Type 0 where
-  pub page : r ≡ pageBy (verdictIn s h damaged) h (distancesFrom h (topsIn s h damaged))
+  pub page : r ≡ pageBy (verdictIn s h damaged) h (distancesFrom h (topsIn s h damaged)) (bytesOf (piecesIn s h damaged))
   pub samples : a′ ≡ filledBy (verdictIn s h damaged) (handed h (coefficientsOf s h damaged)) a
   pub work : w′ ≡ replicate (length w) (pos 0)
   pub marks : m′ ≡ filledBy (verdictIn s h damaged) (cond damaged (lostMarks s h) []) m

@@ -10,6 +10,7 @@ use crate::settings::setting_of;
 use damage::lost::lost_numbers;
 use header::header::Header;
 use layout::lines::samples_before;
+use pieces::Bytes;
 use rows::AMPLE;
 use rows::Check;
 use rows::Field;
@@ -44,9 +45,9 @@ fn clear(cells: &mut [i64])
 }
 
 // Samples and distances of a page whose slices are decoded into the cells.
-fn show(samples: &mut [u16], cells: &mut [i64], h: Header, tops: [usize; 40]) -> Page
+fn show(samples: &mut [u16], cells: &mut [i64], h: Header, tops: [usize; 40], bytes: Bytes) -> Page
     requires { ⌜ Decoded h (length (now samples)) tops (now cells) ⌝ }
-    ensures { λ r. ⌜ Shows Fine h tops (now (samples .entry)) (now (cells .entry)) r (now (samples .exit)) (now (cells .exit)) ⌝ }
+    ensures { λ r. ⌜ Shows Fine h tops bytes (now (samples .entry)) (now (cells .entry)) r (now (samples .exit)) (now (cells .exit)) ⌝ }
 {
     let s = shapes::shape_of(h);
     let p = h.picture;
@@ -54,16 +55,23 @@ fn show(samples: &mut [u16], cells: &mut [i64], h: Header, tops: [usize; 40]) ->
     planes::values(cells, s, p.cpih);
     planes::samples(cells, samples, s, p.bw, depth);
     let d = distances::distances(s, p.fq, p.cpih, p.bw, depth, tops);
-    shown(h, d)
+    shown(h, d, bytes)
 }
 
 // The same, and nothing where the slices are refused.
-fn show_by(v: Verdict, samples: &mut [u16], cells: &mut [i64], h: Header, tops: [usize; 40]) -> Page
+fn show_by(
+    v: Verdict,
+    samples: &mut [u16],
+    cells: &mut [i64],
+    h: Header,
+    tops: [usize; 40],
+    bytes: Bytes,
+) -> Page
     requires { ⌜ Decoded h (length (now samples)) tops (now cells) ⌝ }
-    ensures { λ r. ⌜ Shows v h tops (now (samples .entry)) (now (cells .entry)) r (now (samples .exit)) (now (cells .exit)) ⌝ }
+    ensures { λ r. ⌜ Shows v h tops bytes (now (samples .entry)) (now (cells .entry)) r (now (samples .exit)) (now (cells .exit)) ⌝ }
 {
     match v {
-        Verdict::Fine => show(samples, cells, h, tops),
+        Verdict::Fine => show(samples, cells, h, tops, bytes),
         Verdict::Refused(_) => refused(v),
     }
 }
@@ -193,7 +201,9 @@ fn decode(
     let r = damage::stream(damaged, stream, cells, c, h.slice, [0; 40]);
     let v = r.verdict;
     let tops = r.tops;
-    let page = show_by(v, samples, cells, h, tops);
+    let behind = r.bytes;
+    let header = Bytes::of_markers(h.slice);
+    let page = show_by(v, samples, cells, h, tops, header.and(behind));
     mark_by(v, damaged, cells, marks, h);
     place_by(v, damaged, placed, stream, cells, marks, distances, h);
     clear(cells);

@@ -2,6 +2,8 @@
 use crate::page::Page;
 use header::header::Header;
 use layout::bands::component_of;
+use pieces::Bytes;
+use pieces::NOTHING;
 use rows::Verdict;
 ghost use mathlib.Core.Path.{_≡_};
 ghost use Prim.Native.Nat.{_<_};
@@ -23,13 +25,14 @@ pub fn refused(v: Verdict) -> Page
         height: [0; 4],
         precision: [0; 4],
         distance: [0; 4],
+        bytes: NOTHING,
     }
 }
 
 // A page that is read.
-pub fn shown(h: Header, distance: [usize; 4]) -> Page
+pub fn shown(h: Header, distance: [usize; 4], bytes: Bytes) -> Page
     requires { ⌜ Built (shapeOf h) ⌝ }
-    ensures { λ r. ⌜ r ≡ pageRead h distance ⌝ }
+    ensures { λ r. ⌜ r ≡ pageRead h distance bytes ⌝ }
 {
     let p = h.picture;
     let s0 = size_of(h, 0);
@@ -45,6 +48,7 @@ pub fn shown(h: Header, distance: [usize; 4]) -> Page
         height: [s0.h, s1.h, s2.h, s3.h],
         precision: [s0.b, s1.b, s2.b, s3.b],
         distance: distance,
+        bytes: bytes,
     }
 }
 

@@ -1,4 +1,5 @@
 pub mod Counted
 pub mod Digits
 pub mod Puts
+pub mod Shared
 pub mod Once

@@ -5,7 +5,7 @@ use mathlib.Core.Path.{_≡_}
 use Prim.Native.Nat.{ℕ, _+_, min}
 use lib.Dec.{ltb}
 use lib.ListN.{length, set, take, drop}
-use Rattle.show.specs.Text.{Part, pageText, damagedText, placesText, damagedPlacesText}
+use Rattle.show.specs.Text.{Part, pageText, damagedText, placesText, damagedPlacesText, countedText}
 use Rattle.show.specs.declared.Progress.{Progress}
 use Rattle.reader.specs.declared.page.Page.{Page}
 
@@ -45,3 +45,6 @@ PlacesText p samples distances = Leads (placesText p samples distances)
 
 abbrev pub DamagedPlacesText : Page → List ℕ → List ℕ → List ℕ → List ℕ → ℕ → List ℕ → Type 0
 DamagedPlacesText p samples marks distances = Leads (damagedPlacesText p samples marks distances)
+
+abbrev pub CountedText : Page → List ℕ → List ℕ → ℕ → List ℕ → Type 0
+CountedText p samples = Leads (countedText p samples)

@@ -1,6 +1,7 @@
 -- The text of a page as document 01 says: the answer and its place; then, for each component in order, a heading and one line of samples for each row. Of a
 -- page that was read in spite of damage (request C-15) then, for each component in order, a line 'marks I' and one line of marks for each row; of one that was
--- read with a plane of distances (request C-22) last, likewise, a line 'distances I' and one line of distances for each row.
+-- read with a plane of distances (request C-22) last, likewise, a line 'distances I' and one line of distances for each row. Or, behind the samples, also of a
+-- refused page, one line that tells where the stream's bytes went (request C-16).
 use mathlib.Core.Bool.{cond}
 use mathlib.Core.List.{List, [], _∷_, _++_}
 use Prim.Native.Char.{code}
@@ -9,6 +10,7 @@ use Prim.Native.String.{String, [] as nothing, _∷_ as _then_}
 use lib.Dec.{ltb, leb, eqb}
 use lib.ListN.{length, getD}
 use Rattle.io.specs.Digits.{glyph}
+use Rattle.pieces.specs.declared.Bytes.{Bytes}
 use Rattle.reader.specs.declared.page.Page.{Page}
 use Rattle.show.specs.declared.Plane.{Plane}
 use Rattle.show.specs.declared.Plane.the-variants.{Samples, Marks, Distances}
@@ -33,6 +35,19 @@ field name n = name ++ decimal n
 
 abbrev pub line : List ℕ → ℕ → List ℕ
 line name n = field name n ++ ascii "\n"
+
+-- ---- where the bytes went
+
+-- 'bytes markers A precincts B packets C significance D counts E data F signs G filler H spoilt I'
+unfoldable pub bytesText : Bytes → List ℕ
+bytesText b =
+    field (ascii "bytes markers ") (b .markers)
+    ++ (field (ascii " precincts ") (b .precincts)
+    ++ (field (ascii " packets ") (b .packets)
+    ++ (field (ascii " significance ") (b .significance)
+    ++ (field (ascii " counts ") (b .counts)
+    ++ (field (ascii " data ") (b .«data»)
+    ++ (field (ascii " signs ") (b .signs) ++ (field (ascii " filler ") (b .filler) ++ line (ascii " spoilt ") (b .spoilt))))))))
 
 -- ---- the planes of a page: samples, marks, and distances
 
@@ -138,3 +153,6 @@ module _ (p : Page) where
 
   unfoldable pub damagedPlacesText : List ℕ → List ℕ → List ℕ → List ℕ
   damagedPlacesText samples marks distances = damagedText samples marks ++ distancesText distances
+
+  unfoldable pub countedText : List ℕ → List ℕ
+  countedText samples = pageText samples ++ bytesText (p .bytes)

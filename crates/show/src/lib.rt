@@ -1,8 +1,9 @@
 // The text of a page, as document 01 says: the answer, then for each component a heading and its rows of samples. Of a page that was read in spite of damage
-// then, in the same way, the marks, and of one that was read with a plane of distances last the distances. The text goes into a lent buffer; what does not fit is
-// left out, so no caller has to reckon first.
+// then, in the same way, the marks, and of one that was read with a plane of distances last the distances; or behind the samples a line that tells where the
+// stream's bytes went. The text goes into a lent buffer; what does not fit is left out, so no caller has to reckon first.
 pub mod modes;
 
+use pieces::Bytes;
 use reader::page::Page;
 ghost use mathlib.Core.List.{[], _∷_};
 ghost use mathlib.Core.Path.{_≡_};
@@ -10,8 +11,9 @@ ghost use Prim.Native.Nat.{_+_, _<_, _≤_};
 ghost use lib.Dec.{leb};
 ghost use lib.ListN.{length, getD};
 ghost use Rattle.io.specs.Counts.{Counts};
-ghost use Rattle.show.specs.Text.{decimal, field, line, cellsOf, gap, rowText, nextRow, rows, heading, title, component, components, pageText, damagedText, distancesText};
-ghost use Rattle.show.specs.Buffer.{Put, Shown, PageText, DamagedText, PlacesText, DamagedPlacesText};
+ghost use Rattle.show.specs.Text.{decimal, field, line, cellsOf, gap, rowText, nextRow, rows, heading, title, component, components};
+ghost use Rattle.show.specs.Text.{pageText, damagedText, distancesText, bytesText};
+ghost use Rattle.show.specs.Buffer.{Put, Shown, PageText, DamagedText, PlacesText, DamagedPlacesText, CountedText};
 
 // A byte at `at`, where there is room. Answers the place behind it, as all of these do.
 fn put_byte(out: &mut [u8], at: usize, b: u8) -> usize
@@ -299,6 +301,21 @@ fn put_distances(out: &mut [u8], at: usize, p: Page, distances: &[u16]) -> usize
     done.at
 }
 
+// Where the bytes of the stream went, on one line.
+fn put_bytes(out: &mut [u8], at: usize, b: Bytes) -> usize
+    ensures { λ r. ⌜ Put (bytesText b) at (now (out .entry)) r (now (out .exit)) ⌝ }
+{
+    let markers = put_field(out, at, b"bytes markers ", b.markers as u64);
+    let precincts = put_field(out, markers, b" precincts ", b.precincts as u64);
+    let packets = put_field(out, precincts, b" packets ", b.packets as u64);
+    let significance = put_field(out, packets, b" significance ", b.significance as u64);
+    let counts = put_field(out, significance, b" counts ", b.counts as u64);
+    let data = put_field(out, counts, b" data ", b.data as u64);
+    let signs = put_field(out, data, b" signs ", b.signs as u64);
+    let filler = put_field(out, signs, b" filler ", b.filler as u64);
+    put_line(out, filler, b" spoilt ", b.spoilt as u64)
+}
+
 // The text of a page and its samples, as far as there is room. Answers how many bytes that is.
 pub fn page_text(p: Page, samples: &[u16], out: &mut [u8]) -> usize
     ensures { λ r. ⌜ Counts r (now (out .exit)) ⌝ }
@@ -337,4 +354,13 @@ pub fn damaged_places_text(
 {
     let marked = put_damaged(out, p, samples, marks);
     put_distances(out, marked, p, distances)
+}
+
+// The text of a page and its samples, and then where the bytes of its stream went.
+pub fn counted_text(p: Page, samples: &[u16], out: &mut [u8]) -> usize
+    ensures { λ r. ⌜ Counts r (now (out .exit)) ⌝ }
+    ensures { λ r. ⌜ CountedText p (now (samples .entry)) (now (out .entry)) r (now (out .exit)) ⌝ }
+{
+    let shown = put_page(out, p, samples);
+    put_bytes(out, shown, p.bytes)
 }

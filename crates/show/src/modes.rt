@@ -1,6 +1,7 @@
 // The modes of reading for the programs, each with its text. Lent are 2,048 sample cells, 4,096 work cells, 2,048 marks and 2,048 distances.
 // The longest text, that of a damaged page with its distances, has 2,048 samples and as many distances of five digits, and as many marks, each with a space or a
 // line's end, and twelve headings: less than 30,000 bytes.
+use crate::counted_text;
 use crate::damaged_places_text;
 use crate::damaged_text;
 use crate::page_text;
@@ -15,6 +16,8 @@ pub enum Mode {
     Damaged,
     Places,
     DamagedPlaces,
+    Bytes,
+    DamagedBytes,
 }
 
 // What is told of a stream beside its text: how many bytes that has, and whether the record says that a caption is there.
@@ -35,8 +38,8 @@ fn read_as(
     ensures { λ r. ⌜ ReadsAs mode (now (stream .entry)) (now (samples .entry)) (now (work .entry)) (now (marks .entry)) (now (distances .entry)) r (now (samples .exit)) (now (work .exit)) (now (marks .exit)) (now (distances .exit)) ⌝ }
 {
     match mode {
-        Mode::Plain => reader::read(stream, samples, work),
-        Mode::Damaged => reader::read_damaged(stream, samples, work, marks),
+        Mode::Plain | Mode::Bytes => reader::read(stream, samples, work),
+        Mode::Damaged | Mode::DamagedBytes => reader::read_damaged(stream, samples, work, marks),
         Mode::Places => reader::read_places(stream, samples, work, distances),
         Mode::DamagedPlaces => reader::read_damaged_places(stream, samples, work, marks, distances),
     }
@@ -58,6 +61,7 @@ fn text_as(
         Mode::Damaged => damaged_text(page, samples, marks, out),
         Mode::Places => places_text(page, samples, distances, out),
         Mode::DamagedPlaces => damaged_places_text(page, samples, marks, distances, out),
+        Mode::Bytes | Mode::DamagedBytes => counted_text(page, samples, out),
     }
 }
 

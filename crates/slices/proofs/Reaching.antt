@@ -161,11 +161,12 @@ module _ (s : List ℕ) (c : Setting) (t : ℕ) (x : State) (fine : slice s c t 
 
 -- ---- the slices of an accepted stream
 
-module _ (s : List ℕ) (c : Setting) (x : State) (fine : stream s c x .0 ≡ Fine) where
-  slice-stops : (y r : Left) → sliced y ≡ stop r → r .0 ≡ Fine → ⊥
-  slice-stops (Fine, z) r e f = go-stop e
-  slice-stops (Refused k, z) r e f = stop-refuses e f
+-- one that stops refuses
+pub slice-stops : (y r : Left) → sliced y ≡ stop r → r .0 ≡ Fine → ⊥
+slice-stops (Fine, z) r e f = go-stop e
+slice-stops (Refused k, z) r e f = stop-refuses e f
 
+module _ (s : List ℕ) (c : Setting) (x : State) (fine : stream s c x .0 ≡ Fine) where
   slice-turns : Turns (sliceTurn s c) x (ended s) (slices (c .shape))
   unfolding stream sliceTurn
   slice-turns =

@@ -17,6 +17,9 @@ use Rattle.rows.specs.declared.Field.the-variants.{Lslh, Ysl}
 use Rattle.rows.proofs.Tables.{append-fine, held}
 use Rattle.bits.specs.Fields.{fieldAt}
 use Rattle.picture.specs.Segment.{segmentAt, lengthChecks}
+use Rattle.pieces.specs.declared.Bytes.{Bytes}
+use Rattle.pieces.specs.Pieces.{Piece, bytesOf, nothing, bytesBy}
+use Rattle.pieces.proofs.Laws.{refused-bytes}
 use Rattle.layout.specs.declared.Shape.{Shape}
 use Rattle.layout.specs.Built.{Built}
 use Rattle.layout.specs.Bands.{NL}
@@ -30,6 +33,7 @@ use Rattle.slices.specs.declared.Reading.{Reading}
 use Rattle.slices.specs.Precinct.{precinctAt, precinct, raised}
 use Rattle.slices.specs.Slice.{State, Left, sliceLength, sliceHeaderBytes, sliceMarker, sliceChecks, topRow, rowOf, columnOf, isTop, placed, precinctTurn, slice}
 use Rattle.slices.specs.Stream.{sliced, sliceTurn}
+use Rattle.slices.specs.Pieces.{precinctPieces, placedPieces, slicePieces}
 use Rattle.slices.specs.Steps.{Placed, IsPrecinct, behind, further, Turned, Read}
 use Rattle.slices.proofs.PrecinctLaws.{clash, settled, row-is, column-is, ends-at, precinct-inside}
 
@@ -92,35 +96,47 @@ module _ (s : List ℕ) (c : Setting) (t n at : ℕ) {p : Precinct} (x : IsPreci
 -- ---- the turn of a precinct
 
 module _ (s : List ℕ) (c : Setting) (t n at : ℕ) (tops : List ℕ) (cells : List ℤ) {p : Precinct} (x : IsPrecinct s c (rowOf s c t n) (columnOf s c t n) at p) where
-  placed-is : (v : Verdict) (cells′ : List ℤ) → placed s c t n (at, tops, cells) (v, cells′)
-      ≡ further (behind v c (precinctAt s c (rowOf s c t n) (columnOf s c t n) at) at tops .verdict)
-      (behind v c (precinctAt s c (rowOf s c t n) (columnOf s c t n) at) at tops .at, behind v c (precinctAt s c (rowOf s c t n) (columnOf s c t n) at) at tops .tops, cells′)
-  placed-is Fine cells′ = refl
-  placed-is (Refused k) cells′ = refl
+  module _ (b : Bytes) where
+    -- where the reading stands behind a precinct of the slice
+    abbrev after : Verdict → Precinct → Reading
+    after v q = behind v c q at tops b
 
-  ends-in : (v : Verdict) → (v ≡ Fine → p .end ≤ length s) → behind v c p at tops .verdict ≡ Fine → behind v c p at tops .at ≤ length s
-  ends-in Fine h e = h refl
-  ends-in (Refused k) h e = clash e
+    placed-is : (v : Verdict) (cells′ : List ℤ) → placed s c t n (at, tops, cells) (v, cells′)
+        ≡ further (after v (precinctAt s c (rowOf s c t n) (columnOf s c t n) at) .verdict)
+        (after v (precinctAt s c (rowOf s c t n) (columnOf s c t n) at) .at, after v (precinctAt s c (rowOf s c t n) (columnOf s c t n) at) .tops, cells′)
+    placed-is Fine cells′ = refl
+    placed-is (Refused k) cells′ = refl
 
-  pub turned : {v : Verdict} {r : Reading} {cells′ : List ℤ} → precinct s c (rowOf s c t n) (columnOf s c t n) at (isTop s c t n) cells ≡ (v, cells′)
-      → r ≡ behind v c p at tops → Turned s (precinctTurn s c t n (at, tops, cells)) r cells′
-  unfolding precinctTurn
-  turned {v} {r} {cells′} f e =
-      rw e
-      (record {
-        is =
-            (λ i. placed s c t n (at, tops, cells) (f i))
-            ∙ placed-is v cells′
-            ∙ (λ i. further (behind v c (sym (x .is) i) at tops .verdict) (behind v c (sym (x .is) i) at tops .at, behind v c (sym (x .is) i) at tops .tops, cells′));
-        inside = ends-in v (λ z. omega (arith, ends-at x, precinct-inside s c (rowOf s c t n) (columnOf s c t n) at (isTop s c t n) cells ((λ i. f i .0) ∙ z)));
-      })
+    ends-in : (v : Verdict) → (v ≡ Fine → p .end ≤ length s) → after v p .verdict ≡ Fine → after v p .at ≤ length s
+    ends-in Fine h e = h refl
+    ends-in (Refused k) h e = clash e
+
+    has-in : (v : Verdict) (ps : List Piece) → b ≡ bytesBy v (bytesOf ps) → after v p .bytes ≡ bytesBy (after v p .verdict) (bytesOf ps)
+    has-in Fine ps h = h
+    has-in (Refused k) ps h = h
+
+    pub turned : {v : Verdict} {r : Reading} {cells′ : List ℤ} → precinct s c (rowOf s c t n) (columnOf s c t n) at (isTop s c t n) cells ≡ (v, cells′)
+        → b ≡ bytesBy v (bytesOf (precinctPieces s c (p .row) (p .column) (p .at) cells)) → r ≡ after v p
+        → Turned s (precinctTurn s c t n (at, tops, cells)) (placedPieces s c t n (at, tops, cells)) r cells′
+    unfolding precinctTurn
+    turned {v} {r} {cells′} f h e =
+        rw e
+        (record {
+          is =
+              (λ i. placed s c t n (at, tops, cells) (f i))
+              ∙ placed-is v cells′
+              ∙ (λ i. further (after v (sym (x .is) i) .verdict) (after v (sym (x .is) i) .at, after v (sym (x .is) i) .tops, cells′));
+          inside = ends-in v (λ z. omega (arith, ends-at x, precinct-inside s c (rowOf s c t n) (columnOf s c t n) at (isTop s c t n) cells ((λ i. f i .0) ∙ z)));
+          bytes = has-in v (placedPieces s c t n (at, tops, cells)) (h ∙ (λ i. bytesBy v (bytesOf (precinctPieces s c (x .is i .row) (x .is i .column) (x .is i .at) cells))));
+        })
 
 -- where a reading stands behind a precinct
-module _ (c : Setting) (p : Precinct) (at : ℕ) (tops : List ℕ) where
-  pub behind-fine : {v : Verdict} {raise : List ℕ} → v ≡ Fine → raise ≡ raised c p (NL (c .shape)) tops → _≡_ {A = Reading} (record { verdict = v; at = p .end; tops = raise }) (behind v c p at tops)
+module _ (c : Setting) (p : Precinct) (at : ℕ) (tops : List ℕ) (b : Bytes) where
+  pub behind-fine : {v : Verdict} {raise : List ℕ} → v ≡ Fine → raise ≡ raised c p (NL (c .shape)) tops
+      → _≡_ {A = Reading} (record { verdict = v; at = p .end; tops = raise; bytes = b }) (behind v c p at tops b)
   behind-fine e f = rw (e, f)
 
-  pub behind-refused : {v : Verdict} {k : Check} → v ≡ Refused k → _≡_ {A = Reading} (record { verdict = v; at = at; tops = tops }) (behind v c p at tops)
+  pub behind-refused : {v : Verdict} {k : Check} → v ≡ Refused k → _≡_ {A = Reading} (record { verdict = v; at = at; tops = tops; bytes = b }) (behind v c p at tops b)
   behind-refused e = rw e
 
 -- ---- the header of a slice
@@ -134,15 +150,25 @@ header-ends s t at e =
 
 -- ---- a reading that goes on, and one that stops
 
-module _ {s : List ℕ} {turn : Turn State Left} {r : Reading} {cells′ : List ℤ} (x : Turned s turn r cells′) where
+module _ {s : List ℕ} {turn : Turn State Left} {has : List Piece} {r : Reading} {cells′ : List ℤ} (x : Turned s turn has r cells′) where
   pub turned-goes : r .verdict ≡ Fine → turn ≡ go (r .at, r .tops, cells′)
   turned-goes v = x .is ∙ (λ i. further (v i) (r .at, r .tops, cells′))
 
   pub turned-stops : {k : Check} → r .verdict ≡ Refused k → turn ≡ stop (Refused k, (r .at, r .tops, cells′))
   turned-stops v = x .is ∙ (λ i. further (v i) (r .at, r .tops, cells′))
 
-pub read-still : {s : List ℕ} {left left′ : Left} {r : Reading} {cells′ : List ℤ} → left′ ≡ left → Read s left r cells′ → Read s left′ r cells′
-read-still e x = record { is = e ∙ x .is; inside = x .inside }
+pub read-still : {s : List ℕ} {left left′ : Left} {has : List Piece} {r : Reading} {cells′ : List ℤ} → left′ ≡ left → Read s left has r cells′ → Read s left′ has r cells′
+read-still e x = record { is = e ∙ x .is; inside = x .inside; bytes = x .bytes }
+
+-- what is refused where it stands, and has nothing
+pub stops-here : {s : List ℕ} {left : Left} {v : Verdict} {k : Check} {x : State} {r : Reading} (has : List Piece) → left ≡ (v, x) → v ≡ Refused k
+    → (r .verdict ≡ v) × (r .at ≡ x .0) × (r .tops ≡ x .1) × (r .bytes ≡ nothing) → Read s left has r (x .2)
+stops-here {x = x} has e f h =
+    record {
+      is = e ∙ (λ i. (sym (h .0) i, (sym (h .1) i, sym (h .2) i, x .2)));
+      inside = λ z. clash (sym (h .0 ∙ f) ∙ z);
+      bytes = h .3 ∙ refused-bytes (bytesOf has) (h .0 ∙ f);
+    }
 
 -- ---- the turn of a slice
 
@@ -150,6 +176,7 @@ sliced-is : (v : Verdict) (x : State) → sliced (v, x) ≡ further v x
 sliced-is Fine x = refl
 sliced-is (Refused k) x = refl
 
-pub slice-turned : (s : List ℕ) (c : Setting) (t : ℕ) (x : State) {r : Reading} {cells′ : List ℤ} → Read s (slice s c t x) r cells′ → Turned s (sliceTurn s c t x) r cells′
+pub slice-turned : (s : List ℕ) (c : Setting) (t : ℕ) (x : State) {r : Reading} {cells′ : List ℤ} → Read s (slice s c t x) (slicePieces s c t x) r cells′
+    → Turned s (sliceTurn s c t x) (slicePieces s c t x) r cells′
 unfolding sliceTurn
-slice-turned s c t x {r} {cells′} y = record { is = (λ i. sliced (y .is i)) ∙ sliced-is (r .verdict) (r .at, r .tops, cells′); inside = y .inside }
+slice-turned s c t x {r} {cells′} y = record { is = (λ i. sliced (y .is i)) ∙ sliced-is (r .verdict) (r .at, r .tops, cells′); inside = y .inside; bytes = y .bytes }

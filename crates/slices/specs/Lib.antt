@@ -6,4 +6,5 @@ pub mod Reached
 pub mod Predicted
 pub mod Steps
 pub mod Table
+pub mod Pieces
 pub mod Walk

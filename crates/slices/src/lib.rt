@@ -10,6 +10,8 @@ use picture::marker::Marker;
 use picture::segment::Segment;
 use picture::segment::left;
 use picture::segment::length_row;
+use pieces::Bytes;
+use pieces::NOTHING;
 use rows::AMPLE;
 use rows::Check;
 use rows::Field;
@@ -21,17 +23,20 @@ ghost use Prim.Native.Nat.{_+_, _≤_, _<_, _^_};
 ghost use lib.ListN.{length};
 ghost use Rattle.rows.specs.Rows.{first};
 ghost use Rattle.rows.specs.declared.Verdict.the-variants.{Fine};
+ghost use Rattle.pieces.specs.Pieces.{nothing, all};
 ghost use Rattle.layout.specs.Precincts.{Npy, Np, slices};
 ghost use Rattle.packets.specs.Ready.{Settled};
 ghost use Rattle.slices.specs.Slice.{sliceHeaderBytes, sliceChecks, precinctTurn, precincts, precinctsBy, slice};
 ghost use Rattle.slices.specs.Stream.{endChecks};
-ghost use Rattle.slices.specs.Steps.{Lent, behind, Turned, Read};
+ghost use Rattle.slices.specs.Pieces.{placedPieces, precinctsPieces, slicePieces};
+ghost use Rattle.slices.specs.Steps.{Lent, behind, Turned, Read, Headed};
 
-// Where a reading stands: the verdict, the next place, and the bands' largest T so far. The work cells stand beside it.
+// Where a reading stands: the verdict, the next place, and the bands' largest T so far; and where the bytes went of what is read. The work cells stand beside it.
 pub struct Reading {
     pub verdict: Verdict,
     pub at: usize,
     pub tops: [usize; 40],
+    pub bytes: Bytes,
 }
 
 // The header of slice t.
@@ -71,21 +76,42 @@ pub fn slice_row(s: &[u8], t: usize, at: usize) -> Verdict
 }
 
 // Where a reading stands behind a precinct.
-fn behind(v: Verdict, c: Setting, p: Precinct, at: usize, tops: [usize; 40]) -> Reading
+fn behind(
+    v: Verdict,
+    c: Setting,
+    p: Precinct,
+    at: usize,
+    tops: [usize; 40],
+    bytes: Bytes,
+) -> Reading
     requires { ⌜ Settled c × (p .row < Npy (c .shape)) ⌝ }
-    ensures { λ r. ⌜ r ≡ behind v c p at tops ⌝ }
+    ensures { λ r. ⌜ r ≡ behind v c p at tops bytes ⌝ }
 {
     match v {
         Verdict::Fine => Reading {
             verdict: v,
             at: p.end,
             tops: tops::raised(c, p, tops),
+            bytes: bytes,
         },
         Verdict::Refused(_) => Reading {
             verdict: v,
             at: at,
             tops: tops,
+            bytes: bytes,
         },
+    }
+}
+
+// What stands at `at` is refused: nothing of it is read.
+pub fn stopped(v: Verdict, at: usize, tops: [usize; 40]) -> Reading
+    ensures { λ r. ⌜ (r .verdict ≡ v) × (r .at ≡ at) × (r .tops ≡ tops) × (r .bytes ≡ nothing) ⌝ }
+{
+    Reading {
+        verdict: v,
+        at: at,
+        tops: tops,
+        bytes: NOTHING,
     }
 }
 
@@ -100,13 +126,15 @@ fn precinct_turn(
     tops: [usize; 40],
 ) -> Reading
     requires { ⌜ Lent (now s) c at (length (now cells)) × (t < slices (c .shape)) × (n < Np (c .shape) t) ⌝ }
-    ensures { λ r. ⌜ Turned (now (s .entry)) (precinctTurn (now (s .entry)) c t n (at, tops, now (cells .entry))) r (now (cells .exit)) ⌝ }
+    ensures { λ r. ⌜ Turned (now (s .entry)) (precinctTurn (now (s .entry)) c t n (at, tops, now (cells .entry))) (placedPieces (now (s .entry)) c t n (at, tops, now (cells .entry))) r (now (cells .exit)) ⌝ }
 {
     let shape = c.shape;
     let top = t * shape.hsl;
     let p = precincts::precinct_in(s, c, t, n, at);
-    let v = precincts::precinct(s, cells, c, p, p.row == top);
-    behind(v, c, p, at, tops)
+    let k = precincts::precinct(s, cells, c, p, p.row == top);
+    let v = k.verdict;
+    let bytes = k.bytes;
+    behind(v, c, p, at, tops, bytes)
 }
 
 // The precincts of slice t.
@@ -119,11 +147,12 @@ pub fn all_precincts(
     tops: [usize; 40],
 ) -> Reading
     requires { ⌜ Lent (now s) c at (length (now cells)) × (t < slices (c .shape)) ⌝ }
-    ensures { λ r. ⌜ Read (now (s .entry)) (precincts (now (s .entry)) c t (at, tops, now (cells .entry))) r (now (cells .exit)) ⌝ }
+    ensures { λ r. ⌜ Read (now (s .entry)) (precincts (now (s .entry)) c t (at, tops, now (cells .entry))) (precinctsPieces (now (s .entry)) c t (at, tops, now (cells .entry))) r (now (cells .exit)) ⌝ }
 {
     let count = precincts_in_slice(c.shape, t);
     let mut place = at;
     let mut most = tops;
+    let mut bytes = NOTHING;
     let mut n = 0;
     while n < count {
         let r = precinct_turn(s, cells, c, t, n, place, most);
@@ -132,13 +161,12 @@ pub fn all_precincts(
         let raised = r.tops;
         most = raised;
         match v {
-            Verdict::Fine => {}
+            Verdict::Fine => {
+                let more = r.bytes;
+                bytes = bytes.and(more);
+            }
             Verdict::Refused(_) => {
-                return Reading {
-                    verdict: v,
-                    at: place,
-                    tops: most,
-                };
+                return stopped(v, place, most);
             }
         }
         n += 1;
@@ -147,6 +175,25 @@ pub fn all_precincts(
         verdict: Verdict::Fine,
         at: place,
         tops: most,
+        bytes: bytes,
+    }
+}
+
+// The precincts of a slice, and its header.
+pub fn with_header(r: Reading) -> Reading
+    requires { ⌜ all (r .bytes) < 2 ^ 32 ⌝ }
+    ensures { λ q. ⌜ Headed r q ⌝ }
+{
+    let v = r.verdict;
+    let tops = r.tops;
+    let bytes = r.bytes;
+    let header = Bytes::of_markers(6);
+    let more = header.and(bytes);
+    Reading {
+        verdict: v,
+        at: r.at,
+        tops: tops,
+        bytes: more.by(v),
     }
 }
 
@@ -160,15 +207,11 @@ fn precincts_by(
     tops: [usize; 40],
 ) -> Reading
     requires { ⌜ Lent (now s) c at (length (now cells)) × (t < slices (c .shape)) × (v ≡ Fine → at + sliceHeaderBytes ≤ length (now s)) ⌝ }
-    ensures { λ r. ⌜ Read (now (s .entry)) (precinctsBy (now (s .entry)) c t v (at, tops, now (cells .entry))) r (now (cells .exit)) ⌝ }
+    ensures { λ r. ⌜ Read (now (s .entry)) (precinctsBy (now (s .entry)) c t v (at, tops, now (cells .entry))) (slicePieces (now (s .entry)) c t (at, tops, now (cells .entry))) r (now (cells .exit)) ⌝ }
 {
     match v {
-        Verdict::Fine => all_precincts(s, cells, c, t, at + 6, tops),
-        Verdict::Refused(_) => Reading {
-            verdict: v,
-            at: at,
-            tops: tops,
-        },
+        Verdict::Fine => with_header(all_precincts(s, cells, c, t, at + 6, tops)),
+        Verdict::Refused(_) => stopped(v, at, tops),
     }
 }
 
@@ -182,7 +225,7 @@ pub fn slice(
     tops: [usize; 40],
 ) -> Reading
     requires { ⌜ Lent (now s) c at (length (now cells)) × (t < slices (c .shape)) ⌝ }
-    ensures { λ r. ⌜ Read (now (s .entry)) (slice (now (s .entry)) c t (at, tops, now (cells .entry))) r (now (cells .exit)) ⌝ }
+    ensures { λ r. ⌜ Read (now (s .entry)) (slice (now (s .entry)) c t (at, tops, now (cells .entry))) (slicePieces (now (s .entry)) c t (at, tops, now (cells .entry))) r (now (cells .exit)) ⌝ }
 {
     let v = slice_row(s, t, at);
     precincts_by(v, s, cells, c, t, at, tops)

@@ -8,6 +8,8 @@ use packets::Precinct;
 use packets::Setting;
 use packets::passes::any_line;
 use picture::segment::left;
+use pieces::Bytes;
+use pieces::NOTHING;
 use rows::AMPLE;
 use rows::Check;
 use rows::Field;
@@ -30,13 +32,20 @@ ghost use Rattle.layout.specs.Slots.{slots};
 ghost use Rattle.packets.specs.Ready.{Settled, Standing};
 ghost use Rattle.slices.specs.Precinct.{fieldChecks, modeChecks, headerChecks, packets, packetsBy, precinct};
 ghost use Rattle.slices.specs.Slice.{rowOf, columnOf};
-ghost use Rattle.slices.specs.Steps.{Lent, Placed, IsPrecinct, Passed};
+ghost use Rattle.slices.specs.Steps.{Lent, Placed, IsPrecinct, Passed, IsPacked};
 
-// What a slot of a precinct leaves beside the cells: the verdict, the next place, and the raw flags of the slots so far.
+// What a slot of a precinct leaves beside the cells: the verdict, the next place, the raw flags of the slots so far, and where the slot's bytes went.
 struct Flags {
     verdict: Verdict,
     at: usize,
     raws: [usize; 10],
+    bytes: Bytes,
+}
+
+// What a precinct leaves beside the cells: the verdict, and where its bytes went.
+pub(crate) struct Packed {
+    pub(crate) verdict: Verdict,
+    pub(crate) bytes: Bytes,
 }
 
 // The precinct in this row and column whose header stands at `at`, whether it is accepted or not.
@@ -150,18 +159,21 @@ fn packet_turn(
     if any_line(c, p, slot) {
         let o = packets::packet(s, cells, c, p, slot, at, raws);
         let v = o.verdict;
+        let bytes = o.bytes;
         let mut flags = raws;
         flags[slot] = o.dr;
         return Flags {
             verdict: v,
             at: o.past,
             raws: flags,
+            bytes: bytes,
         };
     }
     Flags {
         verdict: Verdict::Fine,
         at: at,
         raws: raws,
+        bytes: NOTHING,
     }
 }
 
@@ -173,14 +185,15 @@ fn rest_row(p: Precinct, place: usize) -> Verdict
 }
 
 // The packets, which stand behind the header and fill the precinct.
-fn packets(s: &[u8], cells: &mut [i64], c: Setting, p: Precinct) -> Verdict
+fn packets(s: &[u8], cells: &mut [i64], c: Setting, p: Precinct) -> Packed
     requires { ⌜ Settled c × Standing (now s) c p (length (now cells)) × IsPrecinct (now s) c (p .row) (p .column) (p .at) p ⌝ }
-    ensures { λ r. ⌜ packets (now (s .entry)) c (p .row) (p .column) (p .at) (now (cells .entry)) ≡ (r, now (cells .exit)) ⌝ }
+    ensures { λ r. ⌜ IsPacked (now (s .entry)) c p (packets (now (s .entry)) c (p .row) (p .column) (p .at) (now (cells .entry))) (now (cells .entry)) r (now (cells .exit)) ⌝ }
 {
     let shape = c.shape;
     let n = slot_count(shape);
     let mut at = p.end - bits::u24_at(s, p.at);
     let mut raws: [usize; 10] = [0; 10];
+    let mut bytes = Bytes::of_precincts(at - p.at);
     let mut slot = 0;
     while slot < n {
         let f = packet_turn(s, cells, c, p, slot, at, raws);
@@ -190,30 +203,42 @@ fn packets(s: &[u8], cells: &mut [i64], c: Setting, p: Precinct) -> Verdict
                 at = f.at;
                 let flags = f.raws;
                 raws = flags;
+                let more = f.bytes;
+                bytes = bytes.and(more);
             }
             Verdict::Refused(_) => {
-                return v;
+                return Packed {
+                    verdict: v,
+                    bytes: NOTHING,
+                };
             }
         }
         slot += 1;
     }
-    rest_row(p, at)
+    let v = rest_row(p, at);
+    Packed {
+        verdict: v,
+        bytes: bytes.by(v),
+    }
 }
 
-fn packets_by(v: Verdict, s: &[u8], cells: &mut [i64], c: Setting, p: Precinct) -> Verdict
+fn packets_by(v: Verdict, s: &[u8], cells: &mut [i64], c: Setting, p: Precinct) -> Packed
     requires { ⌜ Settled c × (v ≡ Fine → Standing (now s) c p (length (now cells))) × IsPrecinct (now s) c (p .row) (p .column) (p .at) p ⌝ }
-    ensures { λ r. ⌜ packetsBy (now (s .entry)) c (p .row) (p .column) (p .at) v (now (cells .entry)) ≡ (r, now (cells .exit)) ⌝ }
+    ensures { λ r. ⌜ IsPacked (now (s .entry)) c p (packetsBy (now (s .entry)) c (p .row) (p .column) (p .at) v (now (cells .entry))) (now (cells .entry)) r (now (cells .exit)) ⌝ }
 {
     match v {
         Verdict::Fine => packets(s, cells, c, p),
-        Verdict::Refused(_) => v,
+        Verdict::Refused(_) => Packed {
+            verdict: v,
+            bytes: NOTHING,
+        },
     }
 }
 
 // A precinct, `top` where it stands in the top row of its slice.
-pub fn precinct(s: &[u8], cells: &mut [i64], c: Setting, p: Precinct, top: bool) -> Verdict
+pub(crate) fn precinct(s: &[u8], cells: &mut [i64], c: Setting, p: Precinct, top: bool) -> Packed
     requires { ⌜ Lent (now s) c (p .at) (length (now cells)) × Placed c p top × IsPrecinct (now s) c (p .row) (p .column) (p .at) p ⌝ }
-    ensures { λ r. ⌜ precinct (now (s .entry)) c (p .row) (p .column) (p .at) top (now (cells .entry)) ≡ (r, now (cells .exit)) ⌝ }
+    ensures { λ r. ⌜ IsPacked (now (s .entry)) c p (precinct (now (s .entry)) c (p .row) (p .column) (p .at) top (now (cells .entry))) (now (cells .entry)) r (now (cells .exit)) ⌝ }
 {
     let v = header_row(s, c, p, top);
     packets_by(v, s, cells, c, p)

@@ -3,8 +3,10 @@
 //   --damaged         in spite of damage: the text has the marks too
 //   --places          with a distance for each sample: the text has the distances too
 //   --damaged-places  both
-// Stored is NAME.txt, and for --damaged-places NAME.damaged.txt, since a stream of --places has its answer beside it. Prints the names of those that differ, how
-// many agreed, and how many had a caption's yes or no stored.
+//   --bytes           as a page: the text has a line that tells where the stream's bytes went
+//   --damaged-bytes   in spite of damage: the text has that line too, and no marks
+// Stored is NAME.txt, and for --damaged-places and --damaged-bytes NAME.damaged.txt, since a stream of --places or --bytes has its answer beside it. Prints the
+// names of those that differ, how many agreed, and how many had a caption's yes or no stored.
 use libc::STDOUT_FILENO;
 use show::modes::Mode;
 use show::modes::Told;
@@ -61,6 +63,12 @@ fn word_is(word: &[u8]) -> Word {
     if check::same(word, b"--damaged-places") {
         return Word::Mode(Mode::DamagedPlaces);
     }
+    if check::same(word, b"--bytes") {
+        return Word::Mode(Mode::Bytes);
+    }
+    if check::same(word, b"--damaged-bytes") {
+        return Word::Mode(Mode::DamagedBytes);
+    }
     Word::Name
 }
 
@@ -68,8 +76,13 @@ fn read_stored(mode: Mode, name: &[u8], to: &mut [u8]) -> usize
     ensures { λ r. ⌜ Counts r (now (to .exit)) ⌝ }
 {
     match mode {
-        Mode::Plain | Mode::Damaged | Mode::Places => read_file(name, b".txt", true, to),
-        Mode::DamagedPlaces => read_file(name, b".damaged.txt", true, to),
+        Mode::Plain | Mode::Damaged | Mode::Places | Mode::Bytes => read_file(
+            name,
+            b".txt",
+            true,
+            to,
+        ),
+        Mode::DamagedPlaces | Mode::DamagedBytes => read_file(name, b".damaged.txt", true, to),
     }
 }
 

@@ -1,7 +1,6 @@
 -- `damaged_slice` meets its contract. Assumes nothing.
-use mathlib.Core.Path.{_∙_}
+use mathlib.Core.Path.{refl}
 use denote.Ref.{now}
-use Rattle.slices.proofs.WalkLaws.{slice-ends}
 use Rattle.damage.specs.Stream.{steppedOver, damagedTurn}
 use Rattle.damage.proofs.Turns.{turned-still}
 use borrow.Author.Needs.{needs}
@@ -10,20 +9,14 @@ use Rattle.damage.proofs.damaged_slice.Tie as tie
 
 stepped-over-requires : tie.Need-stepped-over-requires
 stepped-over-requires c κs =
-    let b = c .before .before .before in
-    let a = b .args in
-    let w = c .before .walk-slice in (
-      b .pre .0,
-      b .pre .1,
-      (λ e. slice-ends (now (a .s)) (a .c) (a .t) (a .at) (w .result .at) (w .ensures .is ∙ (λ i. (e i, w .result .at))) .0),
-      (λ e. slice-ends (now (a .s)) (a .c) (a .t) (a .at) (w .result .at) (w .ensures .is ∙ (λ i. (e i, w .result .at))) .1),
-    )
+    let h = c .before .before .before .pre in
+    (h .0, h .1, c .before .walk-slice .ensures .is)
 
 returns : tie.Need-returns
 unfolding damagedTurn
 returns c =
     let a = c .before .before .before .before .before .args in
-    turned-still (λ i. steppedOver (now (a .s)) (a .c) (a .t) (a .at, a .tops, now (a .cells)) (c .before .before .before .walk-slice .ensures .is i)) (c .before .stepped-over .ensures)
+    turned-still (λ i. steppedOver (now (a .s)) (a .c) (a .t) (a .at, a .tops, now (a .cells)) (c .before .before .before .walk-slice .ensures .is i)) refl (c .before .stepped-over .ensures)
 
 pub damaged-slice-spec : {M : Type 1} → statement M
 damaged-slice-spec =

@@ -1,10 +1,9 @@
 -- `packets::packet` meets its contract. Assumes nothing.
-use mathlib.Core.Path.{sym, _∙_}
 use borrow.Author.Needs.{needs}
 use denote.Ref.{now}
-use Rattle.packets.specs.Packets.{countsBy, packet}
 use Rattle.packets.specs.Steps.{Within}
 use Rattle.packets.proofs.Stretches.{parts-own}
+use Rattle.packets.proofs.Pieces.{packet-decoded}
 use Rattle.packets.proofs.packet.Statement.{statement}
 use Rattle.packets.proofs.packet.Tie as tie
 
@@ -28,15 +27,10 @@ counts-by-requires c κs =
     (record { within = within start; standing = start .pre .1 }, parts-own (o .parts), o .inside)
 
 returns : tie.Need-returns
-unfolding packet
 returns c =
-    let a = c .before .before .before .before .before .before .args in
-    let o = c .before .before .before .before .«open» .ensures in
-    record {
-      left = (λ i. countsBy (now (a .s)) (a .c) (a .p) (a .slot) (sym (o .parts .place) i) (sym (o .verdict) i) (now (a .cells))) ∙ c .before .counts-by .ensures;
-      dr = o .dr;
-      past = o .parts .past;
-    }
+    let a = c .before .before .before .before .before .before .before .args in
+    let o = c .before .before .before .before .before .«open» .ensures in
+    packet-decoded (now (a .s)) (a .c) (a .p) (a .slot) (a .at) (a .raws) (now (a .cells)) o (c .before .before .counts-by .ensures)
 
 pub packet-spec : {M : Type 1} → statement M
 packet-spec = tie.close (tie.spec open-requires counts-by-requires (λ c. search needs) returns)

@@ -1,10 +1,7 @@
 -- `packets::values_by` meets its contract. Assumes nothing.
-use mathlib.Core.Path.{ap, _∙_}
 use borrow.Author.Needs.{needs}
 use denote.Ref.{now}
-use Rattle.rows.specs.declared.Verdict.{Verdict}
-use Rattle.packets.specs.Packets.{valuesBy}
-use Rattle.packets.proofs.Stretches.{values-stand}
+use Rattle.packets.proofs.Stretches.{signs-stand, signs-told}
 use Rattle.packets.proofs.values_by.Statement.{statement}
 use Rattle.packets.proofs.values_by.Tie as tie
 
@@ -16,12 +13,12 @@ values-requires c κs =
 returns : tie.Need-returns
 returns c =
     let a = c .before .before .before .before .before .before .args in
-    ap (λ (v : Verdict). valuesBy (now (a .s)) (a .c) (a .p) (a .slot) (a .parts .at) v (now (a .cells))) (c .before .before .before .enum-told .given .1) ∙ c .before .values .ensures
+    signs-told (now (a .s)) (a .c) (a .p) (a .slot) (a .parts .at) (now (a .cells)) (c .before .before .before .enum-told .given .1) (c .before .values .ensures)
 
 returns-2 : tie.Need-returns-2
 returns-2 c =
     let a = c .before .before .before .args in
-    values-stand (now (a .s)) (a .c) (a .p) (a .slot) (a .parts .at) (now (a .cells)) (c .enum-told2 .given .1)
+    signs-stand (now (a .s)) (a .c) (a .p) (a .slot) (a .parts .at) (now (a .cells)) (c .enum-told2 .given .1)
 
 pub values-by-spec : {M : Type 1} → statement M
 values-by-spec =

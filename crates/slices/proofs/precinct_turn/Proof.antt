@@ -26,17 +26,18 @@ precinct-requires c κs =
 
 behind-requires : tie.Need-behind-requires
 behind-requires c κs =
-    let start = c .before .before .before .before .before .before .before .before in
+    let start = c .before .before .before .before .before .before .before .before .before in
     let a = start .args in
     let h = start .pre in
-    (h .0 .settled, placed-in (now (a .s)) (a .c) (a .t) (a .n) (a .at) (c .before .before .before .before .precinct-in .ensures) (h .0 .settled) (h .1) (h .2) .row)
+    (h .0 .settled, placed-in (now (a .s)) (a .c) (a .t) (a .n) (a .at) (c .before .before .before .before .before .precinct-in .ensures) (h .0 .settled) (h .1) (h .2) .row)
 
 returns : tie.Need-returns
 returns c =
-    let a = c .before .before .before .before .before .before .before .before .before .args in
-    let x = c .before .before .before .before .before .precinct-in .ensures in
-    turned (now (a .s)) (a .c) (a .t) (a .n) (a .at) (a .tops) (now (a .cells)) x
-    (seen-precinct (now (a .s)) (a .c) (a .t) (a .n) (a .at) x (now (a .cells)) (c .before .before .precinct .ensures)) (c .behind .ensures)
+    let a = c .before .before .before .before .before .before .before .before .before .before .args in
+    let x = c .before .before .before .before .before .before .precinct-in .ensures in
+    let q = c .before .before .before .precinct in
+    turned (now (a .s)) (a .c) (a .t) (a .n) (a .at) (a .tops) (now (a .cells)) x (q .result .bytes)
+    (seen-precinct (now (a .s)) (a .c) (a .t) (a .n) (a .at) x (now (a .cells)) (q .ensures .is)) (q .ensures .bytes) (c .behind .ensures)
 
 pub precinct-turn-spec : {M : Type 1} → statement M
 precinct-turn-spec =

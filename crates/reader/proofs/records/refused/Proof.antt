@@ -2,6 +2,7 @@
 use mathlib.Core.Bool.{false}
 use lib.ListN.{replicate}
 use borrow.Author.Needs.{needs}
+use Rattle.pieces.specs.Pieces.{nothing}
 use Rattle.reader.proofs.records.refused.Statement.{statement}
 use Rattle.reader.proofs.records.refused.Tie as tie
 
@@ -16,6 +17,7 @@ returns c =
       height = replicate 4 0;
       precision = replicate 4 0;
       distance = replicate 4 0;
+      bytes = nothing;
     }
 
 pub refused-spec : {M : Type 1} → statement M

@@ -22,6 +22,7 @@ returns c =
       height = s0 i .h ∷ s1 i .h ∷ s2 i .h ∷ s3 i .h ∷ [];
       precision = s0 i .b ∷ s1 i .b ∷ s2 i .b ∷ s3 i .b ∷ [];
       distance = a .distance;
+      bytes = a .bytes;
     }
 
 pub shown-spec : {M : Type 1} → statement M

@@ -1,4 +1,5 @@
 -- `show::modes::text_as` meets its contract, mode by mode. Assumes nothing.
+use Rattle.show.proofs.Shared.{text-counted}
 use borrow.Author.Needs.{needs}
 use Rattle.show.proofs.modes.text_as.Statement.{statement}
 use Rattle.show.proofs.modes.text_as.Tie as tie
@@ -15,6 +16,12 @@ returns-3 c = rw (c .before .before .before .before .enum-told3 .given .1) (c .b
 returns-4 : tie.Need-returns-4
 returns-4 c = rw (c .before .before .before .before .enum-told4 .given .1) (c .before .before .damaged-places-text .ensures)
 
+returns-5 : tie.Need-returns-5
+returns-5 c =
+    let a = c .before .before .before .before .before .before .before .before .before .args in
+    let text = text-counted (a .mode) (c .before .before .before .before .match .keys5) (a .page) (a .samples .now) (a .marks .now) (a .distances .now) in
+    rw text (c .before .before .counted-text .ensures)
+
 pub text-as-spec : {M : Type 1} → statement M
 text-as-spec =
     tie.close
@@ -27,6 +34,7 @@ text-as-spec =
     (λ c κs. search needs)
     (λ c. search needs)
     (λ c κs. search needs)
+    (λ c κs. search needs)
     (λ c. search needs)
     returns
     (λ c. search needs)
@@ -34,4 +42,6 @@ text-as-spec =
     (λ c. search needs)
     returns-3
     (λ c. search needs)
-    returns-4)
+    returns-4
+    (λ c. search needs)
+    returns-5)

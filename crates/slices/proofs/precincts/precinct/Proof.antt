@@ -15,7 +15,11 @@ returns : tie.Need-returns
 unfolding precinct
 returns c =
     let a = c .before .before .before .before .before .args in
-    (λ i. packetsBy (now (a .s)) (a .c) (a .p .row) (a .p .column) (a .p .at) (sym (c .before .before .before .header-row .ensures) i) (now (a .cells))) ∙ c .before .packets-by .ensures
+    let q = c .before .packets-by .ensures in
+    record {
+      is = (λ i. packetsBy (now (a .s)) (a .c) (a .p .row) (a .p .column) (a .p .at) (sym (c .before .before .before .header-row .ensures) i) (now (a .cells))) ∙ q .is;
+      bytes = q .bytes;
+    }
 
 pub precinct-spec : {M : Type 1} → statement M
 precinct-spec = tie.close (tie.spec (λ c κs. search needs) packets-by-requires (λ c. search needs) returns)
