@@ -1,6 +1,7 @@
 /* Reads a page from a file, prints its record, and writes its samples as pictures that any viewer opens.
  *
  * The record's last nine lines tell where the bytes of the file went: how many, and their share in per cent. They add up to the file; a refused page has none.
+ * Of a refused page three lines say why: the field that decided, by its name in docs/FIELDS.md, the value found there and the value or range expected.
  *
  * One component becomes a PGM, three of one size and precision a PPM; of any other page each component becomes a PGM of its own, PICTURE.0 and so on.
  * Samples of more than 8 bits take two bytes, the high one first. A comment line for each component has its distance.
@@ -11,6 +12,9 @@
  * With --distances each sample has a distance of its own. They are told of in a line for each component, and stand beside its samples as a PGM of 16 bits:
  * PICTURE.distance, or of several components PICTURE.0.distance and so on.
  *
+ * With --why it only says why a page is refused, as the program `why` does, or of one that is read where each component is coarsest: the lowest band that has the
+ * largest truncation, and the first precinct with it there. With --damaged or --distances too it speaks of that reading, and then of refused pages alone.
+ *
  * The status is 0 where the page is read, 3 where it is read and samples are lost, 1 where it is refused, 2 where it could not be tried or written. */
 #include <errno.h>
 #include <stdio.h>
@@ -20,7 +24,7 @@
 
 enum { READ = 0, REFUSED = 1, FAILED = 2, LOST = 3 };
 
-static const char *const reasons[] = {
+static const char *const meanings[] = {
     "the page is read",
     "the stream ends before a header field or marker segment does",
     "a marker is unknown, repeated, missing or misplaced, or bytes follow the end marker",
@@ -72,7 +76,7 @@ static uint8_t *contents(const char *name, size_t *size)
 
 /* What is asked for beside the samples. */
 struct options {
-    int damaged, distances;
+    int damaged, distances, why;
 };
 
 /* What a page is read into, cell by cell of its samples. Marks and distances are null pointers where they are not asked for. */
@@ -177,13 +181,71 @@ static void print_bytes(const struct pitchladle_bytes *b, uint64_t length)
     print_share("spoilt", b->spoilt, length);
 }
 
+/* A value that was found or is expected: codes are printed in hexadecimal. */
+static void print_value(const struct pitchladle_reason *reason, const char *before, uint64_t value)
+{
+    printf(reason->codes ? "%s0x%04llx" : "%s%llu", before, (unsigned long long)value);
+}
+
+/* The value or range that would have been allowed. */
+static void print_expected(const struct pitchladle_reason *reason)
+{
+    int open = reason->most == PITCHLADLE_NO_MOST;
+    print_value(reason, open ? "expected at least " : "expected ", reason->least);
+    if (!open && reason->least != reason->most)
+        print_value(reason, " to ", reason->most);
+    putchar('\n');
+}
+
+/* What was found, and what was expected. Rule 1 counts bytes and rule 5 cells: what is there, and what is needed. */
+static void print_numbers(const struct pitchladle_reason *reason)
+{
+    const char *counted = reason->answer == 1 ? "bytes left " : reason->answer == 5 ? "cells lent " : NULL;
+    print_value(reason, counted ? counted : "found ", reason->found);
+    putchar('\n');
+    if (counted)
+        printf("%s needed %llu\n", reason->answer == 1 ? "bytes" : "cells", (unsigned long long)reason->least);
+    else
+        print_expected(reason);
+}
+
+static void print_answer(uint64_t answer, uint64_t place)
+{
+    printf("answer %llu at %llu\n", (unsigned long long)answer, (unsigned long long)place);
+}
+
+/* Why the page is refused by the reading that is asked for, where n cells of each plane and 2 n work cells are lent; `sentence` where the answer's meaning is to
+ * stand below it. Of a page that is read nothing but the answer. */
+static int print_reason(const uint8_t *stream, size_t size, struct options asked, int64_t *work, uint64_t n, int sentence)
+{
+    struct pitchladle_reason reason;
+    char name[PITCHLADLE_NAME_BYTES];
+    uint64_t mode = (asked.damaged ? PITCHLADLE_DAMAGED : 0) + (asked.distances ? PITCHLADLE_PLACES : 0);
+    pitchladle_why(stream, size, mode, n, work, 2 * n, n, n, &reason, name);
+    print_answer(reason.answer, reason.place);
+    if (reason.answer == 0)
+        return READ;
+    if (sentence)
+        printf("refused: %s\n", reason.answer < 9 ? meanings[reason.answer] : "?");
+    printf("field %s\n", name);
+    print_numbers(&reason);
+    return REFUSED;
+}
+
+/* Where each component of a page that is read is coarsest. */
+static void print_coarsest(const uint8_t *stream, size_t size, int64_t *work, uint64_t n)
+{
+    struct pitchladle_coarsest coarsest;
+    pitchladle_coarsest(stream, size, n, work, 2 * n, &coarsest);
+    for (uint64_t i = 0; i < coarsest.components; i++) {
+        const struct pitchladle_coarse *c = &coarsest.component[i];
+        printf("component %llu band %llu precinct %llu truncation %llu\n", (unsigned long long)i, (unsigned long long)c->band, (unsigned long long)c->precinct,
+               (unsigned long long)c->truncation);
+    }
+}
+
 static void print_record(const struct pitchladle_page *page, const struct buffers *b)
 {
-    printf("answer %llu at %llu\n", (unsigned long long)page->answer, (unsigned long long)page->place);
-    if (page->answer != 0) {
-        printf("refused: %s\n", page->answer < 9 ? reasons[page->answer] : "?");
-        return;
-    }
     print_components(page, b);
     printf("caption %s\n", page->caption ? "yes" : "no");
     print_bytes(&page->bytes, page->place);
@@ -299,13 +361,14 @@ static int write_pictures(const char *name, const struct pitchladle_page *page, 
     return status;
 }
 
-/* The record, and where a picture is wanted the files. */
-static int show(const struct pitchladle_page *page, const struct buffers *b, const char *picture)
+/* The record, and where a picture is wanted the files; of a refused page why it is. */
+static int show(const struct pitchladle_page *page, const struct buffers *b, const uint8_t *stream, size_t size, const char *picture, struct options asked)
 {
     int status = READ;
-    print_record(page, b);
     if (page->answer != 0)
-        return REFUSED;
+        return print_reason(stream, size, asked, b->work, b->cells, 1);
+    print_answer(page->answer, page->place);
+    print_record(page, b);
     if (picture)
         status = write_pictures(picture, page, b);
     if (status == READ && b->marks && lost_among(b->marks, b->cells) > 0)
@@ -333,7 +396,7 @@ static int read_page(const char *name, const uint8_t *stream, size_t size, const
     int status = FAILED;
     if (all_there(&b, asked)) {
         read_into(&b, stream, size, &page);
-        status = show(&page, &b, picture);
+        status = show(&page, &b, stream, size, picture, asked);
     } else {
         int bytes = 18 + asked.damaged + 2 * asked.distances;
         fprintf(stderr, "%s: no memory for %llu samples, at %d bytes each\n", name, (unsigned long long)b.cells, bytes);
@@ -342,13 +405,32 @@ static int read_page(const char *name, const uint8_t *stream, size_t size, const
     return status;
 }
 
+/* Nothing but why the page is refused, or where it is coarsest. No cell of a plane is needed for it. */
+static int explain(const char *name, const uint8_t *stream, size_t size, struct options asked)
+{
+    uint64_t n = pitchladle_needs(stream, size);
+    int64_t *work = room_for(2 * n, sizeof *work);
+    int status = FAILED;
+    if (work) {
+        status = print_reason(stream, size, asked, work, n, 0);
+        if (status == READ && !asked.damaged && !asked.distances)
+            print_coarsest(stream, size, work, n);
+    } else {
+        fprintf(stderr, "%s: no memory for %llu samples, at 16 bytes each\n", name, (unsigned long long)n);
+    }
+    free(work);
+    return status;
+}
+
 static int usage(const char *program)
 {
     fprintf(stderr,
             "usage: %s [--damaged] [--distances] FILE [PICTURE]\n"
+            "       %s --why [--damaged] [--distances] FILE\n"
             "reads the page in FILE, prints its record and where its bytes went, and writes its samples to PICTURE; with --damaged behind damaged slices too,\n"
-            "and PICTURE.lost is white where samples are lost; with --distances PICTURE.distance has a distance for each sample\n",
-            program);
+            "and PICTURE.lost is white where samples are lost; with --distances PICTURE.distance has a distance for each sample\n"
+            "with --why: only prints why it is refused, or of a page that is read where each component is coarsest\n",
+            program, program);
     return FAILED;
 }
 
@@ -364,24 +446,26 @@ static int ask(struct options *asked, const char *word)
         return asked->damaged = 1;
     if (strcmp(word, "--distances") == 0)
         return asked->distances = 1;
+    if (strcmp(word, "--why") == 0)
+        return asked->why = 1;
     return 0;
 }
 
 int main(int count, char **words)
 {
-    struct options asked = {0, 0};
+    struct options asked = {0, 0, 0};
     int first = 1;
     while (first < count && ask(&asked, words[first]))
         first++;
     char **names = words + first;
     int given = count - first;
-    if (given < 1 || given > 2 || is_option(names[0]) || (given == 2 && is_option(names[1])))
+    if (given < 1 || given > 2 || (given == 2 && asked.why) || is_option(names[0]) || (given == 2 && is_option(names[1])))
         return usage(words[0]);
     size_t size;
     uint8_t *stream = contents(names[0], &size);
     if (!stream)
         return failed(names[0]);
-    int status = read_page(names[0], stream, size, given == 2 ? names[1] : NULL, asked);
+    int status = asked.why ? explain(names[0], stream, size, asked) : read_page(names[0], stream, size, given == 2 ? names[1] : NULL, asked);
     free(stream);
     return status;
 }

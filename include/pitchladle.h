@@ -4,10 +4,10 @@
  * statements. It keeps no state, asks for no memory, and writes to nothing but the buffers that it is lent.
  *
  * What the caller must see to, and nothing else does:
- *   - a pointer is valid for as many cells as the count behind it says, `page` for one struct, and aligned for its type; it is not null, even where the
- *     count is 0;
+ *   - a pointer is valid for as many cells as the count behind it says, `page`, `reason` and `coarsest` for one struct, `name` for PITCHLADLE_NAME_BYTES bytes, and aligned for
+ *     its type; it is not null, even where the count is 0;
  *   - the buffers of one call do not overlap; during the call no other thread writes to any of them, or reads those that the call writes to: samples, work cells,
- *     marks, distances and record;
+ *     marks, distances, record, reason, name and what is coarsest;
  *   - the program is one for x86-64, linked with libpitchladle.a. */
 #ifndef PITCHLADLE_H
 #define PITCHLADLE_H
@@ -111,6 +111,47 @@ void pitchladle_read_places(const uint8_t *stream, size_t stream_bytes, uint16_t
  *   where it is read none behind the N is. The distances may hold anything before. */
 void pitchladle_read_damaged_places(const uint8_t *stream, size_t stream_bytes, uint16_t *samples, size_t sample_cells, int64_t *work, size_t work_cells,
                                     uint8_t *marks, size_t mark_bytes, uint16_t *distances, size_t distance_cells, struct pitchladle_page *page);
+
+/* Why a page is refused. The rule of this answer is broken at `place`: what is found there, read or counted in the stream, is less than `least` or more than `most`;
+ * and no rule that is checked before it is broken. Of a page that is read all is 0 but `place`, which is the stream's length.
+ *   With answer 1 `found` is how many bytes the stream still has at the place, and `least` how many are needed there. With answer 5 they are the cells lent and
+ *   needed of the first buffer that is too short: samples, work, marks, distances. Both have no most. */
+struct pitchladle_reason {
+    uint64_t answer, place;
+    uint64_t found, least, most; /* PITCHLADLE_NO_MOST: any value from `least` on would do */
+    uint64_t codes;              /* 1 where these three are codes, of a marker or a type, which are best printed in hexadecimal, else 0 */
+};
+
+#define PITCHLADLE_NO_MOST UINT64_MAX
+
+/* The name of the field that decided, of a fixed list, in ASCII with a zero behind it: docs/FIELDS.md has the list, with a sentence for each. */
+#define PITCHLADLE_NAME_BYTES 40
+
+/* What pitchladle_why explains: pitchladle_read is mode 0, pitchladle_read_damaged PITCHLADLE_DAMAGED, pitchladle_read_places PITCHLADLE_PLACES, and
+ * pitchladle_read_damaged_places the sum of both. Other bits of a mode are not looked at. */
+enum { PITCHLADLE_DAMAGED = 1, PITCHLADLE_PLACES = 2 };
+
+/* Says why the call of this mode refuses the stream with buffers of these counts. Samples, marks and distances are not lent for it, only their counts are told: a
+ * count that the mode does not have is not looked at. Answer and place are the same as in the record of that call, and the work cells are left as that call
+ * leaves them. `name` takes PITCHLADLE_NAME_BYTES bytes, all 0 where the page is read. */
+void pitchladle_why(const uint8_t *stream, size_t stream_bytes, uint64_t mode, size_t sample_cells, int64_t *work, size_t work_cells, size_t mark_bytes,
+                    size_t distance_cells, struct pitchladle_reason *reason, char *name);
+
+/* Where a component is coarsest, before any colour transform: the lowest band, by the standard's number, that holds the component's largest truncation position T
+ * among the precincts with a coefficient of it, the first such precinct, counted in the order of the stream through all slices, and that T. 0 says that nothing was
+ * cut off. */
+struct pitchladle_coarse {
+    uint64_t band, precinct, truncation;
+};
+
+struct pitchladle_coarsest {
+    uint64_t components;                   /* 1 to 4; 0 where the page is refused, and then all is 0 */
+    struct pitchladle_coarse component[4]; /* in the order of the component table; 0 from `components` on */
+};
+
+/* Says where a page that pitchladle_read reads is coarsest. Samples are not lent for it, only their count is told; the work cells are left as pitchladle_read leaves
+ * them. */
+void pitchladle_coarsest(const uint8_t *stream, size_t stream_bytes, size_t sample_cells, int64_t *work, size_t work_cells, struct pitchladle_coarsest *coarsest);
 
 /* How many samples the page has: the sum of width times height over its components, at most 2^30. 0 where the stream is refused before its first
  * slice; any other page may still be refused later. */

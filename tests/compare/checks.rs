@@ -3,7 +3,7 @@
 use crate::bytes::{self, Totals};
 use crate::options::Mode;
 use crate::printed::{self, Printed};
-use independent::{a, text};
+use independent::{a, text, Page, Refusal};
 use streams::Made;
 
 /// What a program prints for a stream.
@@ -93,12 +93,17 @@ pub fn fault(mode: Mode, made: &Made, answer: &Answer) -> Option<String> {
     }
 }
 
-/// What is printed of a stream before the distances or the bytes: as `independent/` reads it, where marks are printed with nothing lost.
-/// Only the program that answers knows how many samples it has room for: it may find them too many, where nothing else is wrong.
-fn plain(mode: Mode, stream: &[u8], answer: &Answer) -> Vec<u8> {
+/// A stream as `independent/` reads it. Only the program that answers knows how many samples it has room for: it may find them too many,
+/// where nothing else is wrong.
+pub fn plain_reading(stream: &[u8], answer: &Answer) -> Result<Page, Refusal> {
     let room = if answer.text.starts_with(b"answer 5 ") { 0 } else { usize::MAX };
+    independent::read(stream, room)
+}
+
+/// What is printed of a stream before the distances or the bytes: as `independent/` reads it, where marks are printed with nothing lost.
+fn plain(mode: Mode, stream: &[u8], answer: &Answer) -> Vec<u8> {
     let mut out = Vec::new();
-    match independent::read(stream, room) {
+    match plain_reading(stream, answer) {
         Ok(page) => {
             text::page(&mut out, &page, stream.len()).expect("memory takes it");
             if mode.has_marks() {

@@ -1,7 +1,7 @@
 //! Runs two programs on made streams and compares every byte that they print. Stops at the first difference.
 //!
 //! Usage: `compare FIRST SECOND [sound N] [damaged N] [bounds N] [foreign N] [headers N] [seed S] [large]`,
-//! or `compare FIRST SECOND spoilt N [seed S] [large]`, with `placed` or `counted` in the place of `spoilt`. FIRST and SECOND are
+//! or `compare FIRST SECOND spoilt N [seed S] [large]`, with `placed`, `counted` or `reasons` in the place of `spoilt`. FIRST and SECOND are
 //! command lines whose words are separated by spaces; each gets the stream on standard input. Sound streams are a third each
 //! of random syntax, pictures and coefficients; a page program must accept them, and for the latter two its samples must keep
 //! the distance that it prints. `stream KIND SEED` makes a stream again.
@@ -20,11 +20,16 @@
 //! quarter of the streams has much filler, three eighths have spoilt slices. Of what SECOND prints all before the last line must be
 //! what is printed without it, marks left out; that line must add up to the stream's length, or for a refused stream say 0 nine
 //! times; for a sound stream, or one that lost the slice in which it differs from a sound twin, it must be the count of its maker.
+//!
+//! With `reasons` the programs print why a stream is refused, or where each component is coarsest. A third of the streams is damaged anywhere,
+//! a third has one change in the header; the others are of all other sorts. What SECOND prints must be written as it must be, with the
+//! number and place that the independent decoder finds, and true as far as the bytes at the place show it.
 
 mod bytes;
 mod checks;
 mod options;
 mod printed;
+mod reasons;
 
 use checks::Answer;
 use options::{Case, Mode, Options};
@@ -46,7 +51,7 @@ fn main() -> ExitCode {
             eprintln!(
                 "usage: compare FIRST SECOND [sound N] [damaged N] [bounds N] [foreign N] [headers N] [seed S] [large]"
             );
-            eprintln!("       compare FIRST SECOND (spoilt | placed | counted) N [seed S] [large]");
+            eprintln!("       compare FIRST SECOND (spoilt | placed | counted | reasons) N [seed S] [large]");
             return ExitCode::from(2);
         }
     };
@@ -64,13 +69,14 @@ fn main() -> ExitCode {
 }
 
 /// How many streams were accepted, and of these how many lost a slice, had a sample that is nearer than its component's distance, or
-/// had filler.
+/// had filler; and what reasons were given.
 #[derive(Default)]
 struct Tally {
     accepted: AtomicUsize,
     lossy: AtomicUsize,
     nearer: AtomicUsize,
     filled: AtomicUsize,
+    reasons: Mutex<reasons::Tally>,
 }
 
 impl Tally {
@@ -79,6 +85,7 @@ impl Tally {
         self.lossy.fetch_add(usize::from(answer.has_lost() || bytes::has_spoilt(answer)), Ordering::SeqCst);
         self.nearer.fetch_add(usize::from(answer.has_nearer()), Ordering::SeqCst);
         self.filled.fetch_add(usize::from(bytes::has_filler(answer)), Ordering::SeqCst);
+        self.reasons.lock().expect("no worker panics").take(answer);
     }
 
     fn print(self, options: &Options) {
@@ -94,8 +101,15 @@ impl Tally {
         if options.has_bytes() {
             notes.push(format!("{filled} with filler"));
         }
+        let reasons = self.reasons.into_inner().expect("no worker panics");
+        if options.has_reasons() {
+            notes.push(reasons.note());
+        }
         let notes = if notes.is_empty() { String::new() } else { format!(" ({})", notes.join(", ")) };
         println!("{all} streams, {accepted} accepted{notes}: no difference");
+        if options.has_reasons() {
+            reasons.print();
+        }
     }
 }
 
@@ -172,6 +186,9 @@ fn judge(options: &Options, case: Case, input: &Path, folder: &Path) -> io::Resu
 /// What is wrong with what the second program prints, by itself and beside what it prints otherwise.
 fn fault(options: &Options, case: Case, made: &Made, second: &Answer, input: &Path) -> io::Result<Option<String>> {
     let again = |mode: Mode, stream: &[u8]| answer(&options.second, mode, stream, input);
+    if case.mode == Mode::Reasons {
+        return Ok(reasons::fault(made, second));
+    }
     if let Some(fault) = checks::fault(case.mode, made, second) {
         return Ok(Some(fault));
     }

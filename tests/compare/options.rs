@@ -3,10 +3,11 @@
 use streams::setting::{Limits, LARGE, SMALL};
 use streams::Kind;
 
-/// The sorts of streams that are read in other modes than that of the page program.
+/// The sorts of streams of which more is asked than the page.
 const SPOILT: &str = "spoilt";
 const PLACED: &str = "placed";
 const COUNTED: &str = "counted";
+const REASONS: &str = "reasons";
 
 /// How the programs are asked to read a stream.
 #[derive(Clone, Copy, Debug, PartialEq, Eq)]
@@ -17,13 +18,14 @@ pub enum Mode {
     DamagedPlaces,
     Bytes,
     DamagedBytes,
+    Reasons,
 }
 
 impl Mode {
     /// What stands before the stream.
     pub fn letter(self) -> &'static [u8] {
         match self {
-            Mode::Page => b"",
+            Mode::Page | Mode::Reasons => b"",
             Mode::Damaged => b"d",
             Mode::Places => b"p",
             Mode::DamagedPlaces => b"q",
@@ -72,7 +74,7 @@ pub struct Options {
 
 impl Options {
     pub fn new(words: &[String]) -> Option<Options> {
-        let other = [SPOILT, PLACED, COUNTED].into_iter().find(|sort| words.iter().any(|word| word == sort));
+        let other = [SPOILT, PLACED, COUNTED, REASONS].into_iter().find(|sort| words.iter().any(|word| word == sort));
         let counts = match other {
             Some(sort) => vec![(sort, 0)],
             None => vec![("sound", 300), ("damaged", 300), ("bounds", 200), ("foreign", 20), ("headers", 0)],
@@ -111,6 +113,7 @@ impl Options {
                 SPOILT => (spoilt(n), Mode::Damaged),
                 PLACED => placed(n),
                 COUNTED => counted(n),
+                REASONS => (reasons(n), Mode::Reasons),
                 "sound" => (sound(n), Mode::Page),
                 "damaged" => (Kind::Damaged, Mode::Page),
                 "bounds" => (Kind::Bounds, Mode::Page),
@@ -132,6 +135,10 @@ impl Options {
 
     pub fn has_bytes(&self) -> bool {
         self.counts.iter().any(|(sort, _)| *sort == COUNTED)
+    }
+
+    pub fn has_reasons(&self) -> bool {
+        self.counts.iter().any(|(sort, _)| *sort == REASONS)
     }
 }
 
@@ -175,6 +182,19 @@ fn counted(n: usize) -> (Kind, Mode) {
         9 => (Kind::Apart, Mode::Bytes),
         10 | 11 => (Kind::Apart, Mode::DamagedBytes),
         n_in_turn => (others(n_in_turn, n / 32), [Mode::Bytes, Mode::DamagedBytes][n / 16 % 2]),
+    }
+}
+
+/// A third of the streams damaged anywhere, a third with one change of the header; of the rest nearly half aimed at one rule each, the others of
+/// all other sorts.
+fn reasons(n: usize) -> Kind {
+    use Kind::*;
+    const OTHERS: [Kind; 9] = [Spoilt, Apart, Coarse, Syntax, Coarse, Picture, Coefficients, Filled, Foreign];
+    match (n % 3, n / 3 % 16) {
+        (0, _) => Damaged,
+        (1, _) => Bounds,
+        (_, 0..=6) => Aimed,
+        (_, other) => OTHERS[other - 7],
     }
 }
 

@@ -2,11 +2,12 @@
 
 use super::a::{self, Header};
 use super::b::{ceil_div, Band, Layout, Line, NG, SS};
-use super::bits::Bits;
+use super::bits::{Bits, Subpacket};
 use super::bytes::Bytes;
 use super::d;
 use super::e::{self, Plane};
-use super::{require, Refusal, Row};
+use super::fields::Field;
+use super::rules::{require, Refusal, Row};
 use std::ops::Range;
 
 /// What is kept of a band while a slice is read; nothing for one that does not exist.
@@ -54,7 +55,7 @@ pub fn each_slice(
 
 /// L_prc of the precinct at an offset (Table C.1), as it is declared.
 pub fn precinct_length(s: &[u8], at: usize) -> Result<usize, Refusal> {
-    require(at + 3 <= s.len(), Row::Cut, at)?;
+    a::require_bytes(s, at, Field::Lprc, 3)?;
     Ok(big_endian(&s[at..at + 3]) as usize)
 }
 
@@ -65,9 +66,9 @@ fn precinct_header_length(layout: &Layout) -> usize {
 
 /// The bytes of a precinct behind its header, `lprc` of them.
 pub fn precinct_body(s: &[u8], layout: &Layout, at: usize, lprc: usize) -> Result<Range<usize>, Refusal> {
-    let start = at + precinct_header_length(layout);
-    require(start + lprc <= s.len(), Row::Length, at)?;
-    Ok(start..start + lprc)
+    let header = precinct_header_length(layout);
+    require(Row::Length, at, Field::Precinct, header + lprc, 0..=s.len() - at)?;
+    Ok(at + header..at + header + lprc)
 }
 
 /// T[p,b] of the precinct at an offset by band index, 0 for a band that does not exist; also where Q or R is a forbidden one.
@@ -181,7 +182,7 @@ impl<'a> Reader<'a> {
         for lines in packets {
             next = self.packet(&precinct, next, lines)?;
         }
-        require(next == precinct.end, Row::Length, at)?;
+        require(Row::Length, at, Field::Rest, precinct.end - next, 0)?;
         Ok(next)
     }
 
@@ -189,16 +190,18 @@ impl<'a> Reader<'a> {
     fn precinct_header(&mut self, at: usize, top: bool) -> Result<Range<usize>, Refusal> {
         let s = self.s;
         let lprc = precinct_length(s, at)?;
-        require((1..1 << 20).contains(&lprc), Row::Value, at)?;
+        require(Row::Value, at, Field::Lprc, lprc, 1..=(1 << 20) - 1)?;
         let body = precinct_body(s, self.layout, at, lprc)?;
         let (q, r) = (s[at + 3], s[at + 4]);
-        require(q <= 31, Row::Value, at + 3)?;
-        require(usize::from(r) < 2 * self.layout.bands.len(), Row::Value, at + 4)?;
+        require(Row::Value, at + 3, Field::Q, q.into(), 0..=31)?;
+        require(Row::Value, at + 4, Field::R, r.into(), 0..=2 * self.layout.bands.len() - 1)?;
         let existing = self.codings.iter_mut().zip(&self.layout.bands).filter(|(_, band)| band.is_some());
         for (n, ((coding, _), weight)) in existing.zip(&self.header.wgt).enumerate() {
             let place = at + 5 + n / 4;
             let d = s[place] >> (6 - n % 4 * 2) & 3;
-            require(!top || d & 1 == 0, Row::Mode, place)?;
+            if top {
+                require(Row::Mode, place, Field::D, usize::from(d & 1), 0)?;
+            }
             let t = truncation(q, r, *weight, self.header.br);
             *coding = Coding { d, t, raw: None };
         }
@@ -211,33 +214,30 @@ impl<'a> Reader<'a> {
         let head = self.packet_header(precinct, at, lines)?;
         let end = precinct.end;
         let spans: Vec<Span> = lines.iter().map(|line| self.span(line, precinct.column)).collect();
-        let flags_at = at + head.size;
-        let flags = subpacket(self.s, flags_at, significance_length(&spans, head.raw), end)?;
-        let counts_at = flags_at + flags.len();
-        let counts = subpacket(self.s, counts_at, head.lcnt, end)?;
-        self.unpack_counts(&spans, head.raw, flags, counts).map_err(|row| Refusal { row, place: counts_at })?;
-        let data_at = counts_at + head.lcnt;
-        let data = subpacket(self.s, data_at, head.ldat, end)?;
-        self.unpack_data(&spans, data).map_err(|row| Refusal { row, place: data_at })?;
-        let signs_at = data_at + head.ldat;
-        let signs = subpacket(self.s, signs_at, head.sign_length(self.header.fs), end)?;
+        let subpacket = |field, at, length| subpacket(self.s, field, at, length, end);
+        let flags = subpacket(Field::Significance, at + head.size, significance_length(&spans, head.raw))?;
+        let counts = subpacket(Field::Counts, flags.end(), head.lcnt)?;
+        self.unpack_counts(&spans, head.raw, flags.bytes, counts)?;
+        let data = subpacket(Field::Data, counts.end(), head.ldat)?;
+        self.unpack_data(&spans, data)?;
+        let signs = subpacket(Field::Signs, data.end(), head.sign_length(self.header.fs))?;
         if self.header.fs {
-            self.unpack_signs(signs).map_err(|row| Refusal { row, place: signs_at })?;
+            self.unpack_signs(signs)?;
         }
         self.dequantise(&spans);
-        Ok(signs_at + signs.len())
+        Ok(signs.end())
     }
 
     /// Reads and judges a packet header (C.3).
     fn packet_header(&mut self, precinct: &Precinct, at: usize, lines: &[Line]) -> Result<PacketHeader, Refusal> {
         let long = is_long(self.header);
         let size = if long { 7 } else { 5 };
-        require(at + size <= precinct.end, Row::Length, precinct.at)?;
+        require(Row::Length, precinct.at, Field::Packet, size, 0..=precinct.end - at)?;
         let head = packet_header(&self.s[at..at + size], long);
         if !self.header.rl {
             for line in lines {
                 let raw = *self.codings[line.band].raw.get_or_insert(head.raw);
-                require(raw == head.raw, Row::Mode, at)?;
+                require(Row::Mode, at, Field::Dr, head.raw.into(), usize::from(raw))?;
             }
         }
         self.decoded.bytes.packets += head.size;
@@ -257,7 +257,7 @@ impl<'a> Reader<'a> {
 
     /// The bitplane count subpacket (C.5.3.5, Table C.8), with the significance flags (C.5.2, Table C.6).
     /// A line of counts replaces the line above it in the same band.
-    fn unpack_counts(&mut self, spans: &[Span], raw: bool, flags: &[u8], counts: &[u8]) -> Result<(), Row> {
+    fn unpack_counts(&mut self, spans: &[Span], raw: bool, flags: &[u8], counts: Subpacket) -> Result<(), Refusal> {
         let mut bits = Bits::new(counts);
         let mut first_flag = 0;
         let limit = 2 << self.header.br;
@@ -286,17 +286,19 @@ impl<'a> Reader<'a> {
     }
 
     /// The data subpacket (C.5.4, Table C.9). Signs, if they are here, stand before a group's bitplanes like one more.
-    fn unpack_data(&mut self, spans: &[Span], data: &[u8]) -> Result<(), Row> {
+    fn unpack_data(&mut self, spans: &[Span], data: Subpacket) -> Result<(), Refusal> {
         self.indices.clear();
         let mut bits = Bits::new(data);
+        let signs = u32::from(!self.header.fs);
+        bits.claim(NG * spans.iter().map(|span| self.nibbles(span, signs)).sum::<usize>())?;
         for span in spans {
             for &m in &self.bands[span.band].counts[span.groups.clone()] {
-                let planes = u32::from(m).saturating_sub(span.coding.t);
+                let planes = planes(m, span);
                 if planes == 0 {
                     self.indices.push([0; NG]);
                     continue;
                 }
-                let group = bits.group(planes + u32::from(!self.header.fs))?;
+                let group = bits.group(planes + signs);
                 self.indices.push(group.map(|member| signed(member, planes)));
             }
         }
@@ -305,12 +307,19 @@ impl<'a> Reader<'a> {
         Ok(())
     }
 
+    /// How many nibbles of data the code groups of a line have, `signs` of them in each that has any bitplanes.
+    fn nibbles(&self, span: &Span, signs: u32) -> usize {
+        let groups = self.bands[span.band].counts[span.groups.clone()].iter().map(|&m| planes(m, span));
+        groups.filter(|&planes| planes > 0).map(|planes| (planes + signs) as usize).sum()
+    }
+
     /// The sign subpacket (C.5.5, Table C.10): a bit for each index that is not 0.
-    fn unpack_signs(&mut self, signs: &[u8]) -> Result<(), Row> {
+    fn unpack_signs(&mut self, signs: Subpacket) -> Result<(), Refusal> {
         let mut bits = Bits::new(signs);
+        let present = |group: &[i32; NG]| group.iter().filter(|&&index| index != 0).count();
+        bits.claim(self.indices.iter().map(present).sum())?;
         for group in &mut self.indices {
-            let present = group.iter().filter(|&&index| index != 0).count() as u32;
-            let mut signs = bits.take(present)?;
+            let mut signs = bits.take(present(group) as u32);
             for index in group.iter_mut().rev().filter(|index| **index != 0) {
                 if signs & 1 == 1 {
                     *index = -*index;
@@ -364,10 +373,10 @@ fn packet_header(bytes: &[u8], long: bool) -> PacketHeader {
     }
 }
 
-/// The bytes of a subpacket, if they lie in their precinct.
-fn subpacket(s: &[u8], at: usize, length: usize, end: usize) -> Result<&[u8], Refusal> {
-    require(at + length <= end, Row::Length, at)?;
-    Ok(&s[at..at + length])
+/// A subpacket, if it lies in its precinct.
+fn subpacket(s: &[u8], field: Field, at: usize, length: usize, end: usize) -> Result<Subpacket<'_>, Refusal> {
+    require(Row::Length, at, field, length, 0..=end - at)?;
+    Ok(Subpacket { bytes: &s[at..at + length], at, field })
 }
 
 /// How many significance flags a line has in a packet that is not raw (B.9, Table C.6).
@@ -401,22 +410,23 @@ impl Flags<'_> {
 }
 
 /// Table C.14.
-fn unpack_raw(bits: &mut Bits, br: u32, counts: &mut [u8]) -> Result<(), Row> {
+fn unpack_raw(bits: &mut Bits, br: u32, counts: &mut [u8]) -> Result<(), Refusal> {
     for m in counts {
-        *m = bits.take(br)?;
+        bits.claim(br as usize)?;
+        *m = bits.take(br);
     }
     Ok(())
 }
 
 /// Table C.16. The predictor is T itself, so that θ is 0.
-fn unpack_nopred(bits: &mut Bits, flags: &Flags, limit: u32, t: u32, counts: &mut [u8]) -> Result<(), Row> {
+fn unpack_nopred(bits: &mut Bits, flags: &Flags, limit: u32, t: u32, counts: &mut [u8]) -> Result<(), Refusal> {
     for (j, groups) in counts.chunks_mut(SS).enumerate() {
         if flags.insignificant(j) {
             groups.fill(t as u8);
             continue;
         }
         for m in groups {
-            *m = in_range(t as i32 + bits.vlc(0, limit)?)?;
+            *m = bits.count(t, t, limit)?;
         }
     }
     Ok(())
@@ -431,14 +441,14 @@ fn unpack_vertical(
     t_top: u32,
     rm: bool,
     counts: &mut [u8],
-) -> Result<(), Row> {
+) -> Result<(), Refusal> {
     let least = t.max(t_top) as u8;
     for (j, groups) in counts.chunks_mut(SS).enumerate() {
         let insignificant = flags.insignificant(j);
         for m in groups {
             let m_top = (*m).max(least);
             *m = if !insignificant {
-                in_range(i32::from(m_top) + bits.vlc(u32::from(m_top) - t, limit)?)?
+                bits.count(m_top.into(), t, limit)?
             } else if rm {
                 t as u8
             } else {
@@ -449,11 +459,9 @@ fn unpack_vertical(
     Ok(())
 }
 
-fn in_range(m: i32) -> Result<u8, Row> {
-    match m {
-        0..=31 => Ok(m as u8),
-        _ => Err(Row::Count),
-    }
+/// The bitplanes that the data carries of a code group with bitplane count `m`.
+fn planes(m: u8, span: &Span) -> u32 {
+    u32::from(m).saturating_sub(span.coding.t)
 }
 
 /// An index from its magnitude of `planes` bits with the sign bit above.
@@ -502,17 +510,21 @@ mod tests {
                 assert_eq!(read_precinct(lh, false, lsgn, 0), Ok(6 + 4 * packet));
             }
             assert_eq!(read_precinct(lh, true, 0, 0), Ok(6 + 4 * packet));
-            let past = Refusal { row: Row::Length, place: 6 + packet };
+            let (row, place, field, found) = (Row::Length, 6 + packet, Field::Signs, largest as usize);
+            let past = Refusal { row, place, field, found, expected: (0..=3 * packet).into() };
             assert_eq!(read_precinct(lh, true, largest, 0), Err(past));
         }
     }
 
     #[test]
     fn an_ignored_sign_length_fills_no_precinct() {
-        let unfilled = Refusal { row: Row::Length, place: 0 };
+        let unfilled = |found| {
+            let (row, place, field) = (Row::Length, 0, Field::Rest);
+            Err(Refusal { row, place, field, found, expected: 0.into() })
+        };
         for lh in [false, true] {
-            assert_eq!(read_precinct(lh, false, 3, 3), Err(unfilled));
-            assert_eq!(read_precinct(lh, false, 3, 12), Err(unfilled));
+            assert_eq!(read_precinct(lh, false, 3, 3), unfilled(3));
+            assert_eq!(read_precinct(lh, false, 3, 12), unfilled(12));
         }
     }
 

@@ -31,9 +31,25 @@ pub fn codestream(s: &[u8], header: &Header, layout: &Layout) -> Result<(Decoded
     Ok((reader.decoded, lost))
 }
 
+/// Goes over all precincts of a page by their declared lengths, whatever stands in them. `precinct` takes the row, the column and the
+/// T[p,b] of each by band index.
+pub fn each_precinct(
+    s: &[u8],
+    header: &Header,
+    layout: &Layout,
+    mut precinct: impl FnMut(usize, usize, &[u32]),
+) -> Result<(), Refusal> {
+    c::each_slice(s, header, layout, |rows, at| {
+        step_over(s, layout, rows, at, |row, column, bytes| {
+            precinct(row, column, &c::truncations(s, header, layout, bytes.start));
+        })
+    })?;
+    Ok(())
+}
+
 /// Goes over the precincts of a slice by their declared lengths, whatever stands in them, and gives the offset behind them.
 /// `precinct` takes the row, the column and the bytes of each.
-pub fn step_over(
+fn step_over(
     s: &[u8],
     layout: &Layout,
     rows: Range<usize>,

@@ -12,38 +12,17 @@ pub mod damaged;
 pub mod distance;
 pub mod e;
 pub mod f;
+pub mod fields;
 pub mod g;
 mod places;
+mod rules;
 pub mod text;
+pub mod why;
 
-/// The rows of document 01's table of refusal numbers, but for row 0.
-#[derive(Clone, Copy, Debug, PartialEq, Eq)]
-pub enum Row {
-    Cut = 1,
-    Marker = 2,
-    Value = 3,
-    NotBuilt = 4,
-    Buffer = 5,
-    Length = 6,
-    Count = 7,
-    Mode = 8,
-}
+pub use rules::{Expected, Refusal, Row};
 
-/// A refused stream: why, and the offset of the byte that holds the first bit of the field concerned.
-#[derive(Clone, Copy, Debug, PartialEq, Eq)]
-pub struct Refusal {
-    pub row: Row,
-    pub place: usize,
-}
-
-/// Refuses with `row` at `place` unless the rule holds.
-pub(crate) fn require(holds: bool, row: Row, place: usize) -> Result<(), Refusal> {
-    if holds {
-        Ok(())
-    } else {
-        Err(Refusal { row, place })
-    }
-}
+use fields::Field;
+use rules::require;
 
 /// One component of a page that was read; samples stand row by row.
 #[derive(Debug, PartialEq, Eq)]
@@ -71,9 +50,25 @@ pub type Marks = Vec<Vec<bool>>;
 /// For each component, row by row: how far a sample may be from that of the coefficients before they were quantized.
 pub type Distances = Vec<Vec<u16>>;
 
+/// How many cells a caller lends. Marks and distances have numbers where they are asked for.
+#[derive(Clone, Copy, Debug)]
+pub struct Lent {
+    pub samples: usize,
+    pub work: usize,
+    pub marks: Option<usize>,
+    pub distances: Option<usize>,
+}
+
+impl Lent {
+    /// What pages of at most so many samples need, without marks and distances.
+    pub fn for_samples(room: usize) -> Lent {
+        Lent { samples: room, work: room.saturating_mul(2), marks: None, distances: None }
+    }
+}
+
 /// Reads one whole codestream into at most `room` sample cells over all components.
 pub fn read(s: &[u8], room: usize) -> Result<Page, Refusal> {
-    let (header, layout) = opened(s, room)?;
+    let (header, layout) = opened(s, Lent::for_samples(room))?;
     let decoded = c::codestream(s, &header, &layout)?;
     Ok(page(&header, &layout, decoded))
 }
@@ -81,7 +76,7 @@ pub fn read(s: &[u8], room: usize) -> Result<Page, Refusal> {
 /// As `read`, but what breaks a rule inside a slice loses that slice and not the page (document 02, C-15). There is room
 /// for as many marks as samples.
 pub fn read_damaged(s: &[u8], room: usize) -> Result<(Page, Marks), Refusal> {
-    let (header, layout) = opened(s, room)?;
+    let (header, layout) = opened(s, Lent::for_samples(room))?;
     let (decoded, lost) = damaged::codestream(s, &header, &layout)?;
     Ok((page(&header, &layout, decoded), marks(&header, &layout, lost)))
 }
@@ -101,10 +96,15 @@ pub fn read_damaged_places(s: &[u8], room: usize) -> Result<(Page, Marks, Distan
 }
 
 /// All up to the fields of the first slice header.
-fn opened(s: &[u8], room: usize) -> Result<(a::Header, b::Layout), Refusal> {
+fn opened(s: &[u8], lent: Lent) -> Result<(a::Header, b::Layout), Refusal> {
     let header = a::header(s)?;
     let layout = b::Layout::new(&header);
-    require(layout.samples() <= room, Row::Buffer, header.first_slice)?;
+    let n = layout.samples();
+    let enough = |field, lent: usize, needed: usize| require(Row::Buffer, header.first_slice, field, lent, needed..);
+    enough(Field::Samples, lent.samples, n)?;
+    enough(Field::Work, lent.work, 2 * n)?;
+    enough(Field::Marks, lent.marks.unwrap_or(n), n)?;
+    enough(Field::Distances, lent.distances.unwrap_or(n), n)?;
     Ok((header, layout))
 }
 

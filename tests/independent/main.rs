@@ -1,6 +1,6 @@
 //! Reads a codestream from standard input and prints what document 01's page program prints.
 //!
-//! Usage: `page [--any] [--damaged] [--distances] [--layout | --pictures NAME [--bytes] | --time N]`, `page [--any] [--damaged] --bytes`
+//! Usage: `page [--any] [--damaged] [--distances] [--layout | --pictures NAME [--bytes] | --time N | --why]`, `page [--any] [--damaged] --bytes`
 //! or `page [--any] --modes`. `--any` lifts the page program's limits. `--damaged` loses spoilt slices instead of the page (document 02,
 //! C-15) and prints the marks too; `--distances` also prints the distance at each sample (C-22). `--bytes` prints behind the page, without
 //! marks, where the bytes of the stream went (C-16), of a refused page too.
@@ -8,6 +8,8 @@
 //! shortest time of N readings. `--pictures` writes the samples to files and prints the answer; with `--damaged` it also
 //! writes masks, and prints how much is lost; with `--distances` it also writes those, and prints the largest and how many are 0;
 //! with `--bytes` it prints them last.
+//! `--why` prints of a refused page which rule is broken, and of one that is read where each component is coarsest (C-19); with `--damaged` or
+//! `--distances` it tells why that mode refuses a page, and of a page that is read no more than that.
 //! `--modes` takes a letter before the stream: `d` is for `--damaged`, `p` for `--distances` and `q` for both, `b` is for `--bytes` and `c`
 //! for `--damaged --bytes`.
 
@@ -15,7 +17,8 @@ mod layout;
 mod pictures;
 
 use independent::bytes::Bytes;
-use independent::{read, read_damaged, read_damaged_places, read_places, text, Distances, Marks, Page, Refusal};
+use independent::{read, read_damaged, read_damaged_places, read_places, text, why};
+use independent::{Distances, Lent, Marks, Page, Refusal};
 use std::env;
 use std::io::{self, BufWriter, Read, Write};
 use std::process::ExitCode;
@@ -30,6 +33,7 @@ enum Wanted {
     Layout,
     Pictures(String),
     Time(usize),
+    Why,
 }
 
 struct Options {
@@ -48,7 +52,7 @@ impl Options {
         match self.wanted {
             Wanted::Page => !self.modes && !self.distances,
             Wanted::Pictures(_) => !self.modes,
-            Wanted::Layout | Wanted::Time(_) => false,
+            Wanted::Layout | Wanted::Time(_) | Wanted::Why => false,
         }
     }
 }
@@ -58,8 +62,8 @@ fn main() -> ExitCode {
         Some(options) => options,
         None => {
             eprintln!(
-                "usage: page [--any] [--modes | [--damaged] [--distances] [--layout | --pictures NAME [--bytes] | --time N] \
-                 | [--damaged] --bytes] < STREAM"
+                "usage: page [--any] [--modes | [--damaged] [--distances] [--layout | --pictures NAME [--bytes] | --time N \
+                 | --why] | [--damaged] --bytes] < STREAM"
             );
             return ExitCode::from(2);
         }
@@ -87,6 +91,7 @@ fn options() -> Option<Options> {
             "--layout" => options.wanted = Wanted::Layout,
             "--pictures" => options.wanted = Wanted::Pictures(words.next()?),
             "--time" => options.wanted = Wanted::Time(words.next()?.parse().ok()?),
+            "--why" => options.wanted = Wanted::Why,
             _ => return None,
         }
     }
@@ -126,7 +131,15 @@ fn answer(out: &mut impl Write, options: &Options, stream: &[u8]) -> io::Result<
             Ok(())
         }
         Wanted::Time(readings) => print_time(out, *readings, || reading().is_ok()),
+        Wanted::Why => why::print(out, stream, lent(options, room)),
     }
+}
+
+/// What a caller of the mode lends who has room for so many samples.
+fn lent(options: &Options, room: usize) -> Lent {
+    let asked_for = |plane: bool| Some(room).filter(|_| plane);
+    let (marks, distances) = (asked_for(options.damaged), asked_for(options.distances));
+    Lent { marks, distances, ..Lent::for_samples(room) }
 }
 
 /// A page, with marks and distances where they are asked for.

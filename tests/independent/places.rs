@@ -2,8 +2,7 @@
 
 use super::a::{self, Header};
 use super::b::Layout;
-use super::c;
-use super::damaged::step_over;
+use super::damaged::each_precinct;
 use super::distance::{self, Number};
 use super::e::{self, Plane};
 use super::{Distances, Marks, Page, Refusal};
@@ -19,11 +18,8 @@ pub fn distances(s: &[u8]) -> Result<Distances, Refusal> {
 /// The number of each coefficient: that of its own precinct and band, whatever it is and also where its slice is spoilt.
 fn numbers(s: &[u8], header: &Header, layout: &Layout) -> Result<Vec<Plane<Number>>, Refusal> {
     let mut numbers = e::planes(layout);
-    c::each_slice(s, header, layout, |rows, at| {
-        step_over(s, layout, rows, at, |row, column, precinct| {
-            let t = c::truncations(s, header, layout, precinct.start);
-            e::fill_precinct(&mut numbers, layout, row, column, |band| distance::band_number(t[band], header.fq));
-        })
+    each_precinct(s, header, layout, |row, column, t| {
+        e::fill_precinct(&mut numbers, layout, row, column, |band| distance::band_number(t[band], header.fq));
     })?;
     Ok(numbers)
 }

@@ -4,6 +4,7 @@
 
 pub mod setting;
 
+mod aimed;
 mod bounds;
 mod coarse;
 mod counted;
@@ -45,6 +46,8 @@ pub enum Kind {
     Apart,
     /// The sound pages that those differ from, by the same seed.
     Twin,
+    /// Streams in which one rule is broken, of those that other damage seldom meets.
+    Aimed,
     /// Pages with one header field at a bound, or one segment in a wrong place.
     Bounds,
     /// Files of other formats.
@@ -53,7 +56,7 @@ pub enum Kind {
     Header,
 }
 
-pub const KINDS: [(&str, Kind); 12] = [
+pub const KINDS: [(&str, Kind); 13] = [
     ("syntax", Kind::Syntax),
     ("picture", Kind::Picture),
     ("coefficients", Kind::Coefficients),
@@ -63,6 +66,7 @@ pub const KINDS: [(&str, Kind); 12] = [
     ("spoilt", Kind::Spoilt),
     ("apart", Kind::Apart),
     ("twin", Kind::Twin),
+    ("aimed", Kind::Aimed),
     ("bounds", Kind::Bounds),
     ("foreign", Kind::Foreign),
     ("header", Kind::Header),
@@ -114,6 +118,7 @@ fn unsound(rng: &mut Rng, kind: Kind, seed: u64, limits: Limits) -> (String, Vec
             let (stream, _) = sound(rng, base, limits);
             damage::spoil(rng, stream)
         }
+        Kind::Aimed => aimed::aim(rng, |rng| sound_of_any_source(rng, limits)),
         Kind::Bounds => bounds::change(seed as usize),
         Kind::Foreign => damage::foreign(rng),
         _ => ("", write::header(rng, &setting::chosen(seed as usize)).bytes),
@@ -126,6 +131,12 @@ fn made_apart(rng: &mut Rng, name: String, mut stream: Stream, exact: Option<Vec
     let (what, slice) = spoilt::set_apart(rng, &mut stream);
     let counted = Some(stream.counted_without(slice));
     Made { name: format!("{}-{}", name, what), bytes: stream.bytes, sound: false, exact, counted }
+}
+
+/// A sound stream of random syntax, a picture or coefficients.
+fn sound_of_any_source(rng: &mut Rng, limits: Limits) -> Stream {
+    let kind = rng.pick(&[Kind::Syntax, Kind::Picture, Kind::Coefficients]);
+    sound(rng, kind, limits).0
 }
 
 /// A sound stream, mostly one of several slices.

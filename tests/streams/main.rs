@@ -1,7 +1,7 @@
 //! Writes a stream for tests to standard output.
 //!
 //! Usage: `stream KIND SEED [large]`, KIND being syntax, picture, coefficients, coarse, filled, damaged, spoilt, apart, twin,
-//! bounds, foreign or header; or
+//! aimed, bounds, foreign or header; or
 //! `stream measured NAME WIDTH HEIGHT`, NAME being lossless, lossy, subsampled, sheet,
 //! uniform, uniform-lossless, coarse or coarse-subsampled.
 

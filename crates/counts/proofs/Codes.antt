@@ -10,8 +10,9 @@ use native.Mathlib.Decide.{decLe}
 use borrow.Author.Tests.{lt-ltb, le-ltb, eq-eqb, ne-eqb}
 use lib.Count.{leadingZeros, leading-of-zero, leading-top, leading-length, leading-unique}
 use lib.Pow.{pow-pos}
-use lib.IntN.{pos, negℤ, _+ℤ_}
+use lib.IntN.{pos, negℤ, _+ℤ_, _-ℤ_}
 use lib.ListN.{length}
+use Rattle.whole.proofs.Linear.{addZ, subZ, eqZ}
 use Rattle.bits.specs.Fields.{bitAt, field, IsField}
 use Rattle.bits.proofs.Laws.{field-lt, field-one, field-past}
 use Rattle.counts.specs.Codes.{ones, vlc}
@@ -183,3 +184,16 @@ module _ (r t n : ℕ) where
 
       none : n ≡ 0 → pos r +ℤ vlc r t n ≡ pos (r + n / 2)
       none e = rw (le-ltb _ _ h, e)
+
+  -- a predictor that is not below t is moved to a natural that is not below it either: a step down is at most r − t
+  pub vlc-floor : t ≤ r → (m : ℕ) × (pos r +ℤ vlc r t n ≡ pos m) × (t ≤ m)
+  vlc-floor h = by (decLe n (2 * (r - t))) (decLe 1 (n % 2))
+    where
+      by : Dec (n ≤ 2 * (r - t)) → Dec (1 ≤ n % 2) → (m : ℕ) × (pos r +ℤ vlc r t n ≡ pos m) × (t ≤ m)
+      by (no k) o = (r + (n - (r - t)), vlc-unary (omega arith), omega arith)
+      by (yes k) (yes o) = (r - (n + 1) / 2, vlc-odd k (omega arith), omega arith)
+      by (yes k) (no o) = (r + n / 2, vlc-even k (λ e. omega arith), omega arith)
+
+-- m + (t − m)
+pub to-t : (m t : ℕ) → pos m +ℤ (pos t -ℤ pos m) ≡ pos t
+to-t m t = eqZ _ _ (omega (arith, addZ (pos m) (pos t -ℤ pos m), subZ (pos t) (pos m)))

@@ -14,7 +14,7 @@ use Rattle.counts.specs.declared.group.Coding.{Coding}
 use Rattle.counts.specs.declared.group.Mode.{Mode}
 use Rattle.counts.specs.declared.group.Mode.the-variants.{Raw, NoPrediction, Vertical}
 use Rattle.counts.specs.declared.Place.{Place}
-use Rattle.counts.specs.declared.Line.the-variants.{Done, Cut, High}
+use Rattle.counts.specs.declared.Line.the-variants.{Done, Cut, High, Long}
 
 -- Table C.17 with r = 5 and t = 2: signed up to 2θ = 6 1-bits, unary behind
 quantities : map (vlc 5 2) (0 ∷ 1 ∷ 2 ∷ 3 ∷ 4 ∷ 5 ∷ 6 ∷ 7 ∷ 8 ∷ [])
@@ -40,6 +40,11 @@ unfolding one lineCounts run turn unpack coded counted vlc ones bitAt field nibb
 three-ways = refl
 
 -- 32 1-bits and the end: too many where Br = 4, cut where Br = 5
-too-many : map (λ (br : ℕ). one NoPrediction br (0xff ∷ 0xff ∷ 0xff ∷ 0xff ∷ []) .0) (4 ∷ 5 ∷ []) ≡ High ∷ Cut ∷ []
+too-many : map (λ (br : ℕ). one NoPrediction br (0xff ∷ 0xff ∷ 0xff ∷ 0xff ∷ []) .0) (4 ∷ 5 ∷ []) ≡ Long 32 ∷ Cut ∷ []
 unfolding one lineCounts run turn unpack coded counted vlc ones bitAt field nibblesOf coding place
 too-many = refl
+
+-- 30 1-bits above T = 2: a count of 32
+too-high : one NoPrediction 5 (0xff ∷ 0xff ∷ 0xff ∷ 0xfc ∷ []) .0 ≡ High 32
+unfolding one lineCounts run turn unpack coded counted vlc ones bitAt field nibblesOf coding place
+too-high = refl

@@ -11,17 +11,17 @@ use lib.ListN.{length}
 use lib.Pow.{pow-pos}
 use Rattle.counts.specs.Codes.{ones, vlc}
 use Rattle.counts.specs.Groups.{counted, coded}
-use Rattle.counts.specs.declared.group.Group.the-variants.{Cut, High}
+use Rattle.counts.specs.declared.group.Group.the-variants.{Cut, Long}
 use Rattle.counts.proofs.Codes.{ones-past}
 
 module _ (s : List ℕ) (br mtop t i : ℕ) {limit n : ℕ} (e : limit ≡ 2 ^ (br + 1)) (f : n ≡ ones s i limit) where
   by-code : coded s br mtop t i ≡
-      cond (leb limit n) High (cond (leb (8 * length s) (i + n)) Cut (counted (pos mtop +ℤ vlc mtop t n) (i + n + 1)))
+      cond (leb limit n) (Long n) (cond (leb (8 * length s) (i + n)) Cut (counted (pos mtop +ℤ vlc mtop t n) (i + n + 1)))
   unfolding coded
   by-code = rw (f, e)
 
-  pub coded-high : limit ≤ n → coded s br mtop t i ≡ High
-  coded-high h = by-code ∙ rw (le-leb _ _ h)
+  pub coded-long : limit ≤ n → coded s br mtop t i ≡ Long n
+  coded-long h = by-code ∙ rw (le-leb _ _ h)
 
   pub coded-cut : n < limit → 8 * length s ≤ i + n → coded s br mtop t i ≡ Cut
   coded-cut h k = by-code ∙ rw (lt-leb _ _ h, le-leb _ _ k)

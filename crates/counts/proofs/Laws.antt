@@ -1,5 +1,5 @@
 -- What a line of counts leaves, for the layers above. Assumes nothing.
-use Prim.Native.Nat.{ℕ, zero, suc, _+_, _*_, _≤_, _<_, max}
+use Prim.Native.Nat.{ℕ, zero, suc, _+_, _*_, _^_, _≤_, _<_, max}
 use mathlib.Core.Path.{_≡_, refl, sym, ap, _∙_}
 use mathlib.Core.List.{List}
 use native.Mathlib.Omega.{arith}
@@ -12,12 +12,12 @@ use Rattle.loops.proofs.Laws.{Kept, run-carries}
 use Rattle.whole.specs.Cells.{cell}
 use Rattle.bits.specs.Groups.{Ncg, nibblesOf, packed, heldM, heldT}
 use Rattle.bits.proofs.Groups.{nibbles-le}
-use Rattle.counts.specs.Lines.{countCell, State, Left, stored, unpack, turn, end, lineCounts}
+use Rattle.counts.specs.Lines.{countCell, State, Left, stored, unpack, turn, end, lineCounts, Founded}
 use Rattle.counts.specs.declared.group.Coding.{Coding}
 use Rattle.counts.specs.declared.group.Group.{Group}
-use Rattle.counts.specs.declared.group.Group.the-variants.{Count, Cut as CutCode, High as HighCode}
+use Rattle.counts.specs.declared.group.Group.the-variants.{Count, Cut as CutCode, High as HighCode, Long as LongCode}
 use Rattle.counts.specs.declared.Place.{Place}
-use Rattle.counts.specs.declared.Line.the-variants.{Done, Cut, High}
+use Rattle.counts.specs.declared.Line.the-variants.{Done, Cut, High, Long}
 use Rattle.counts.proofs.Lines.{Sound, unpack-sound}
 
 -- ---- a count cell: M and T come back from what it holds
@@ -58,14 +58,15 @@ apart p k g h d e = let far : 4 * k * p .stride < 4 * g * p .stride = mul-lt-mul
 abbrev OnDone : (State → Type 0) → Left → Type 0
 OnDone P (Done next need, l) = P (next, need, l)
 OnDone P (Cut, l) = Unit {0}
-OnDone P (High, l) = Unit {0}
+OnDone P (High m, l) = Unit {0}
+OnDone P (Long n, l) = Unit {0}
 
 module _ (s sig : List ℕ) (c : Coding) (p : Place) (i z : ℕ) (cells : List ℤ) where
   -- what holds of the first state and is carried through each count that is stored holds of what the line leaves
   line-carries : (P : ℕ → State → Type 0) (Q : Left → Type 0)
       → ((x : State) → P (Ncg (p .width)) x → Q (end x))
-      → ((g : ℕ) (x : State) → g < Ncg (p .width) → P g x → Q (Cut, x .2) × Q (High, x .2))
-      → ((g : ℕ) (x : State) (m next : ℕ) → g < Ncg (p .width) → P g x → Sound s (x .0) (Count m next) → P (g + 1) (next, x .1 + nibblesOf m (c .t) (c .fs), set (x .2) (countCell p g) (packed m (c .t))))
+      → ((g : ℕ) (x : State) → g < Ncg (p .width) → P g x → Q (Cut, x .2) × ((m : ℕ) → 31 < m → Q (High m, x .2)) × ((n : ℕ) → 2 ^ (c .br + 1) ≤ n → Q (Long n, x .2)))
+      → ((g : ℕ) (x : State) (m next : ℕ) → g < Ncg (p .width) → P g x → Sound s (c .br) (x .0) (Count m next) → P (g + 1) (next, x .1 + nibblesOf m (c .t) (c .fs), set (x .2) (countCell p g) (packed m (c .t))))
       → P 0 (i, 0, cells) → Q (lineCounts s sig c p i z cells)
   unfolding turn lineCounts
   line-carries P Q at-end at-stop each first =
@@ -73,16 +74,20 @@ module _ (s sig : List ℕ) (c : Coding) (p : Place) (i z : ℕ) (cells : List �
       (λ g x h k. by-group g x h k (unpack (c .mode) s sig c p z g (x .0) (x .2)) (unpack-sound s (x .0) (c .mode) sig c p z g (x .2)))
       (Ncg (p .width)) 0 (i, 0, cells) (omega arith) first
     where
-      by-group : (g : ℕ) (x : State) → g < Ncg (p .width) → P g x → (y : Group) → Sound s (x .0) y → Kept (P (g + 1)) Q (stored c (countCell p g) x y)
+      by-group : (g : ℕ) (x : State) → g < Ncg (p .width) → P g x → (y : Group) → Sound s (c .br) (x .0) y → Kept (P (g + 1)) Q (stored c (countCell p g) x y)
       by-group g x h k (Count m next) f = each g x m next h k f
       by-group g x h k CutCode f = at-stop g x h k .0
-      by-group g x h k HighCode f = at-stop g x h k .1
+      by-group g x h k (HighCode m) f = at-stop g x h k .1 m f
+      by-group g x h k (LongCode n) f = at-stop g x h k .2 n f
+
+  pub line-founded : Founded (c .br) (lineCounts s sig c p i z cells .0)
+  line-founded = line-carries (λ g x. Unit {0}) (λ r. Founded (c .br) (r .0)) (λ x h. tt) (λ g x h k. (tt, λ m f. f, λ n f. f)) (λ g x m next h k f. tt) tt
 
   -- whatever each store keeps, the line keeps, whether or not it stops
   pub line-keeps : (P : List ℤ → Type 0) → ((g m : ℕ) (l : List ℤ) → g < Ncg (p .width) → m ≤ 31 → P l → P (set l (countCell p g) (packed m (c .t))))
       → P cells → P (lineCounts s sig c p i z cells .1)
   line-keeps P each first =
-      line-carries (λ g x. P (x .2)) (λ r. P (r .1)) (λ x h. h) (λ g x h k. (k, k)) (λ g x m next h k f. each g m (x .2) h (f .0) k) first
+      line-carries (λ g x. P (x .2)) (λ r. P (r .1)) (λ x h. h) (λ g x h k. (k, λ m f. k, λ n f. k)) (λ g x m next h k f. each g m (x .2) h (f .0) k) first
 
   pub line-length : length (lineCounts s sig c p i z cells .1) ≡ length cells
   line-length = line-keeps (λ l. length l ≡ length cells) (λ g m l h k e. length-set l (countCell p g) (packed m (c .t)) ∙ e) refl
@@ -96,9 +101,9 @@ module _ (s sig : List ℕ) (c : Coding) (p : Place) (i z : ℕ) (cells : List �
   module _ {next need : ℕ} {l : List ℤ} (e : lineCounts s sig c p i z cells ≡ (Done next need, l)) where
     -- what is carried through each count that is stored holds at its end
     done-carries : (P : ℕ → State → Type 0)
-        → ((g : ℕ) (x : State) (m next : ℕ) → g < Ncg (p .width) → P g x → Sound s (x .0) (Count m next) → P (g + 1) (next, x .1 + nibblesOf m (c .t) (c .fs), set (x .2) (countCell p g) (packed m (c .t))))
+        → ((g : ℕ) (x : State) (m next : ℕ) → g < Ncg (p .width) → P g x → Sound s (c .br) (x .0) (Count m next) → P (g + 1) (next, x .1 + nibblesOf m (c .t) (c .fs), set (x .2) (countCell p g) (packed m (c .t))))
         → P 0 (i, 0, cells) → P (Ncg (p .width)) (next, need, l)
-    done-carries P each first = rw e at (line-carries P (OnDone (P (Ncg (p .width)))) (λ x h. h) (λ g x h k. (tt, tt)) each first)
+    done-carries P each first = rw e at (line-carries P (OnDone (P (Ncg (p .width)))) (λ x h. h) (λ g x h k. (tt, λ m f. tt, λ n f. tt)) each first)
 
     between : (i ≤ next) × (next ≤ max i (8 * length s))
     between =

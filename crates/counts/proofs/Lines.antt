@@ -6,7 +6,7 @@ use mathlib.Core.List.{List}
 use native.Mathlib.Omega.{arith}
 use borrow.Author.Tests.{leb-true, leb-false}
 use lib.Dec.{leb}
-use lib.IntN.{ℤ, pos, negsuc, _+ℤ_}
+use lib.IntN.{ℤ, pos, _+ℤ_, _-ℤ_}
 use lib.ListN.{length, set}
 use lib.Signed.{mag}
 use mir.Syntax.{w64}
@@ -14,7 +14,7 @@ use mir.Val.{toZ, ofZ}
 use Rattle.whole.specs.Cells.{cell}
 use Rattle.whole.proofs.Machine.{back64}
 use Rattle.loops.specs.Run.{go}
-use Rattle.counts.specs.Codes.{ones, vlc}
+use Rattle.counts.specs.Codes.{ones}
 use Rattle.counts.specs.Groups.{counted, coded, unpackVertical}
 use Rattle.bits.specs.Groups.{Ncg, nibblesOf, packed, held, heldM, heldT}
 use Rattle.counts.specs.Lines.{unpack, stored, turn, countCell, insignificant, aboveCell, above, Ready}
@@ -22,42 +22,53 @@ use Rattle.counts.specs.declared.group.Coding.{Coding}
 use Rattle.counts.specs.declared.group.Mode.{Mode}
 use Rattle.counts.specs.declared.group.Mode.the-variants.{Raw, NoPrediction, Vertical}
 use Rattle.counts.specs.declared.group.Group.{Group}
-use Rattle.counts.specs.declared.group.Group.the-variants.{Count, Cut, High}
+use Rattle.counts.specs.declared.group.Group.the-variants.{Count, Cut, High, Long}
 use Rattle.counts.specs.declared.Place.{Place}
+use Rattle.counts.proofs.Codes.{vlc-floor, to-t}
 
 -- ---- a choice, by its test
 cond-by : {A : Type 0} (P : A → Type 0) (b : Bool) {x y : A} → (b ≡ true → P x) → (b ≡ false → P y) → P (cond b x y)
 cond-by P true f g = f refl
 cond-by P false f g = g refl
 
--- ---- what a group's reader finds: a count of at most 31, and a bit that is not before i and, if it is past i, in the stretch
-abbrev pub Sound : List ℕ → ℕ → Group → Type 0
-Sound s i (Count m next) = (m ≤ 31) × (i ≤ next) × (next ≤ max i (8 * length s))
-Sound s i Cut = Unit {0}
-Sound s i High = Unit {0}
+-- ---- what a group's reader finds: a count of at most 31, and a bit that is not before i and, if it is past i, in the stretch. What it refuses is out of range
+abbrev pub Sound : List ℕ → ℕ → ℕ → Group → Type 0
+Sound s br i (Count m next) = (m ≤ 31) × (i ≤ next) × (next ≤ max i (8 * length s))
+Sound s br i Cut = Unit {0}
+Sound s br i (High m) = 31 < m
+Sound s br i (Long n) = 2 ^ (br + 1) ≤ n
 
-module _ (s : List ℕ) (i : ℕ) where
-  counted-sound : (z : ℤ) (next : ℕ) → i ≤ next → next ≤ max i (8 * length s) → Sound s i (counted z next)
+-- mtop + Δm of a group that is insignificant is a natural
+skipped : (run : Bool) (mtop t : ℕ) → (m : ℕ) × (pos mtop +ℤ cond run (pos t -ℤ pos mtop) (pos 0) ≡ pos m)
+skipped true mtop t = (t, to-t mtop t)
+skipped false mtop t = (mtop + 0, refl)
+
+module _ (s : List ℕ) (br i : ℕ) where
+  -- of a natural: the other whole numbers are never reached
+  counted-sound : {z : ℤ} (m next : ℕ) → z ≡ pos m → i ≤ next → next ≤ max i (8 * length s) → Sound s br i (counted z next)
   unfolding counted
-  counted-sound (pos m) next l h = cond-by (Sound s i) (leb m 31) (λ e. (leb-true m 31 e, l, h)) (λ e. tt)
-  counted-sound (negsuc m) next l h = tt
+  counted-sound m next q l h = rw q (cond-by (Sound s br i) (leb m 31) (λ e. (leb-true m 31 e, l, h)) (λ e. omega (arith, leb-false m 31 e)))
 
-  coded-sound : (br mtop t : ℕ) → Sound s i (coded s br mtop t i)
+  coded-sound : (mtop t : ℕ) → t ≤ mtop → Sound s br i (coded s br mtop t i)
   unfolding coded
-  coded-sound br mtop t =
+  coded-sound mtop t h =
       let n = ones s i (2 ^ (br + 1)) in
-      cond-by (Sound s i) (leb (2 ^ (br + 1)) n) (λ e. tt) (λ e.
-      cond-by (Sound s i) (leb (8 * length s) (i + n)) (λ f. tt) (λ f.
-      counted-sound (pos mtop +ℤ vlc mtop t n) (i + n + 1) (omega arith) (omega (arith, leb-false (8 * length s) (i + n) f))))
+      let m = vlc-floor mtop t n h in
+      cond-by (Sound s br i) (leb (2 ^ (br + 1)) n) (λ e. leb-true (2 ^ (br + 1)) n e) (λ e.
+      cond-by (Sound s br i) (leb (8 * length s) (i + n)) (λ f. tt) (λ f.
+      counted-sound (m .0) (i + n + 1) (m .1) (omega arith) (omega (arith, leb-false (8 * length s) (i + n) f))))
 
-  pub unpack-sound : (mode : Mode) (sig : List ℕ) (c : Coding) (p : Place) (z g : ℕ) (cells : List ℤ) → Sound s i (unpack mode s sig c p z g i cells)
-  unfolding unpack
-  unpack-sound Raw sig c p z g cells =
-      cond-by (Sound s i) (leb (i + c .br) (8 * length s)) (λ e. counted-sound _ _ (omega arith) (omega (arith, leb-true (i + c .br) (8 * length s) e))) (λ e. tt)
-  unpack-sound NoPrediction sig c p z g cells =
-      cond-by (Sound s i) (insignificant sig c z g) (λ e. counted-sound _ _ (omega arith) (omega arith)) (λ e. coded-sound (c .br) (c .t) (c .t))
-  unpack-sound Vertical sig c p z g cells =
-      cond-by (Sound s i) (insignificant sig c z g) (λ e. counted-sound _ _ (omega arith) (omega arith)) (λ e. coded-sound (c .br) _ (c .t))
+pub unpack-sound : (s : List ℕ) (i : ℕ) (mode : Mode) (sig : List ℕ) (c : Coding) (p : Place) (z g : ℕ) (cells : List ℤ) → Sound s (c .br) i (unpack mode s sig c p z g i cells)
+unfolding unpack
+unpack-sound s i Raw sig c p z g cells =
+    cond-by (Sound s (c .br) i) (leb (i + c .br) (8 * length s))
+    (λ e. counted-sound s (c .br) i _ _ refl (omega arith) (omega (arith, leb-true (i + c .br) (8 * length s) e))) (λ e. tt)
+unpack-sound s i NoPrediction sig c p z g cells =
+    cond-by (Sound s (c .br) i) (insignificant sig c z g) (λ e. counted-sound s (c .br) i (c .t + 0) _ refl (omega arith) (omega arith)) (λ e. coded-sound s (c .br) i (c .t) (c .t) (omega arith))
+unpack-sound s i Vertical sig c p z g cells =
+    let mtop = max (heldM (above p g cells)) (max (c .t) (heldT (above p g cells))) in
+    let m = skipped (c .run) mtop (c .t) in
+    cond-by (Sound s (c .br) i) (insignificant sig c z g) (λ e. counted-sound s (c .br) i (m .0) _ (m .1) (omega arith) (omega arith)) (λ e. coded-sound s (c .br) i mtop (c .t) (omega arith))
 
 -- ---- vertical prediction, as the code reads the cell above
 module _ (s sig : List ℕ) (c : Coding) (p : Place) (z g i : ℕ) (cells : List ℤ) {r : Group} {skip : Bool} {j h : ℕ} where
@@ -82,7 +93,7 @@ module _ (s sig : List ℕ) (c : Coding) (p : Place) (z g i : ℕ) (cells : List
       → turn s sig c p z g (i, need, cells) ≡ go (next, need + b, set cells k (toZ w64 (ofZ w64 v)))
   turn-counts need {v = v} f a l k b = turn-is need f ∙ rw (back64 v l, a, k, b)
 
-  pub count-sound : {m next : ℕ} → x ≡ Count m next → Sound s i (Count m next)
+  pub count-sound : {m next : ℕ} → x ≡ Count m next → Sound s (c .br) i (Count m next)
   count-sound f = rw (sym e ∙ f) at (unpack-sound s i (c .mode) sig c p z g cells)
 
 -- ---- the cells

@@ -10,20 +10,20 @@ use Rattle.bits.specs.Fields.{field}
 use Rattle.counts.specs.Codes.{ones, vlc}
 use Rattle.counts.specs.declared.group.Coding.{Coding}
 use Rattle.counts.specs.declared.group.Group.{Group}
-use Rattle.counts.specs.declared.group.Group.the-variants.{Count, Cut, High}
+use Rattle.counts.specs.declared.group.Group.the-variants.{Count, Cut, High, Long}
 
--- M is 0 to 31, whatever Br is; any other is refused. The next code stands from bit `next` on
+-- M is 0 to 31, whatever Br is; any other is refused. The next code stands from bit `next` on. No M is below 0, since none is below T: `vlc-floor`
 unfoldable pub counted : ℤ → ℕ → Group
-counted (pos m) next = cond (leb m 31) (Count m next) High
-counted (negsuc m) next = High
+counted (pos m) next = cond (leb m 31) (Count m next) (High m)
+counted (negsuc m) next = High 0
 
--- C.7.1: mtop + Δm for the code Δm = vlc(mtop, T) at bit i. The 2^(Br+1)th 1-bit is too many, whether or not bits follow; before it the
--- stretch's end cuts the code
+-- C.7.1: mtop + Δm for the code Δm = vlc(mtop, T) at bit i. The 2^(Br+1)th 1-bit is too many, whether or not bits follow: the code's end, and so its count, is
+-- not known then. Before it the stretch's end cuts the code
 unfoldable pub coded : List ℕ → ℕ → ℕ → ℕ → ℕ → Group
 coded s br mtop t i =
     let n = ones s i (2 ^ (br + 1)) in
     cond (leb (2 ^ (br + 1)) n)
-    High
+    (Long n)
     (cond (leb (8 * length s) (i + n))
     Cut
     (counted (pos mtop +ℤ vlc mtop t n) (i + n + 1)))

@@ -15,10 +15,10 @@ use Rattle.counts.specs.declared.group.Coding.{Coding}
 use Rattle.counts.specs.declared.group.Mode.{Mode}
 use Rattle.counts.specs.declared.group.Mode.the-variants.{Raw, NoPrediction, Vertical}
 use Rattle.counts.specs.declared.group.Group.{Group}
-use Rattle.counts.specs.declared.group.Group.the-variants.{Count, Cut as CutCode, High as HighCode}
+use Rattle.counts.specs.declared.group.Group.the-variants.{Count, Cut as CutCode, High as HighCode, Long as LongCode}
 use Rattle.counts.specs.declared.Place.{Place}
 use Rattle.counts.specs.declared.Line.{Line}
-use Rattle.counts.specs.declared.Line.the-variants.{Done, Cut, High}
+use Rattle.counts.specs.declared.Line.the-variants.{Done, Cut, High, Long}
 
 -- the count cell of code group g
 abbrev pub countCell : Place → ℕ → ℕ
@@ -57,7 +57,8 @@ Left = Line × List ℤ
 abbrev pub stored : Coding → ℕ → State → Group → Turn State Left
 stored c to x (Count m next) = go (next, x .1 + nibblesOf m (c .t) (c .fs), set (x .2) to (packed m (c .t)))
 stored c to x CutCode = stop (Cut, x .2)
-stored c to x HighCode = stop (High, x .2)
+stored c to x (HighCode m) = stop (High m, x .2)
+stored c to x (LongCode n) = stop (Long n, x .2)
 
 -- the turn of group g
 unfoldable pub turn : List ℕ → List ℕ → Coding → Place → ℕ → ℕ → State → Turn State Left
@@ -70,7 +71,14 @@ end x = (Done (x .0) (x .1), x .2)
 unfoldable pub lineCounts : List ℕ → List ℕ → Coding → Place → ℕ → ℕ → List ℤ → Left
 lineCounts s sig c p i z cells = run (turn s sig c p z) end (Ncg (p .width)) 0 (i, 0, cells)
 
--- ---- what the reader asks
+-- ---- what the reader finds and asks
+
+-- a line is refused for a count, or for a number of 1-bits, that is out of range
+abbrev pub Founded : ℕ → Line → Type 0
+Founded br (Done next need) = Unit {0}
+Founded br Cut = Unit {0}
+Founded br (High m) = 31 < m
+Founded br (Long n) = 2 ^ (br + 1) ≤ n
 
 -- a stretch of `bytes` bytes, and n cells that hold the line and, for vertical prediction, the line above it
 pub record Ready (c : Coding) (p : Place) (bytes z n : ℕ) : Type 0 where

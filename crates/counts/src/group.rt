@@ -18,9 +18,11 @@ pub struct Coding {
     pub br: usize,
 }
 
-// What reading a group finds: its count with the bit past its code, that the stretch's end cuts the code, or that the count is out of range.
+// What reading a group finds: its count with the bit past its code, that the stretch's end cuts the code, a count that is out of range, or so many 1-bits that
+// they are no code.
 pub enum Group {
     Count(usize, usize),
     Cut,
-    High,
+    High(usize),
+    Long(usize),
 }

@@ -22,12 +22,13 @@ pub struct Place {
     pub up: usize,
 }
 
-// What reading a line finds: the bit past it and the nibbles of data that its groups take, that the stretch's end cuts a code, or that a
-// count is out of range.
+// What reading a line finds: the bit past it and the nibbles of data that its groups take, that the stretch's end cuts a code, a count that is
+// out of range, or so many 1-bits that they are no code.
 pub enum Line {
     Done { next: usize, need: usize },
     Cut,
-    High,
+    High(usize),
+    Long(usize),
 }
 
 // What a count cell holds; a negative number is read as 0.
@@ -139,8 +140,11 @@ pub fn line_counts(
             Group::Cut => {
                 return Line::Cut;
             }
-            Group::High => {
-                return Line::High;
+            Group::High(m) => {
+                return Line::High(m);
+            }
+            Group::Long(n) => {
+                return Line::Long(n);
             }
         }
         g += 1;

@@ -14,7 +14,7 @@ fn in_range(m: usize, next: usize) -> Group
     if m <= 31 {
         Group::Count(m, next)
     } else {
-        Group::High
+        Group::High(m)
     }
 }
 
@@ -38,7 +38,7 @@ fn read_code(s: &[u8], br: usize, mtop: usize, t: usize, i: usize) -> Group
     let limit = too_many(br);
     let n = crate::code::ones_from(s, i, limit);
     if limit <= n {
-        return Group::High;
+        return Group::Long(n);
     }
     if all <= i + n {
         return Group::Cut;

@@ -12,7 +12,6 @@ use Rattle.rows.specs.declared.Check.{Check}
 use Rattle.rows.specs.declared.Verdict.{Verdict}
 use Rattle.rows.specs.declared.Verdict.the-variants.{Fine, Refused}
 use Rattle.rows.proofs.Tables.{then-fine, answer-fine}
-use Rattle.pieces.specs.declared.Bytes.{Bytes}
 use Rattle.pieces.specs.Pieces.{bytesOf}
 use Rattle.layout.specs.Bands.{Wc}
 use Rattle.layout.specs.Cells.{samples}
@@ -35,21 +34,17 @@ use Rattle.reader.specs.Page.{headerOf, lentVerdict, verdict, pageBy, samplesBy
 use Rattle.reader.specs.Modes.{decodedBy, verdictIn, topsIn, piecesIn, coefficientsOf, lostSample, lostMarks, roomChecksIn, lentVerdictIn, verdictOf, LeavesIn, ReadsIn}
 use Rattle.reader.specs.Steps.{Opened}
 use Rattle.reader.proofs.Openings.{opened}
+use Rattle.reader.proofs.Judgement.{answered}
 use Rattle.demands.specs.Stored.{shape}
 use Rattle.demands.specs.Demands.{sampleAt}
 use Rattle.demands.specs.Damaged.{markAt}
-
--- the record's answer is that of the verdict
-answered : (v : Verdict) (h : Header) (d : List ℕ) (b : Bytes) → pageBy v h d b .answer ≡ answer v
-answered Fine h d b = refl
-answered (Refused c) h d b = refl
 
 -- ---- a reading in either mode, by any verdicts
 
 module _ {damaged : Bool} {s : List ℕ} {lent all : Verdict} {a : List ℕ} {w : List ℤ} {m : List ℕ} {r : Page} {a′ : List ℕ} {w′ : List ℤ} {m′ : List ℕ}
     (leaves : LeavesIn damaged s (headerOf s) lent all a w m r a′ w′ m′) where
   pub answer-in : r .answer ≡ answer all
-  answer-in = ap (λ (p : Page). p .answer) (leaves .page) ∙ answered all (headerOf s) _ _
+  answer-in = ap (λ (p : Page). p .answer) (leaves .page) ∙ answered all (headerOf s) _ _ .0
 
   pub fine-in : r .answer ≡ 0 → all ≡ Fine
   fine-in e = answer-fine all (sym answer-in ∙ e)

@@ -12,5 +12,6 @@ pub mod Whole
 pub mod Places
 pub mod Apart
 pub mod Walked
+pub mod Why
 pub mod Caption
 pub mod Bytes

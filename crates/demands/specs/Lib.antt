@@ -7,4 +7,5 @@ pub mod Demands
 pub mod Caption
 pub mod Damaged
 pub mod Places
+pub mod Why
 pub mod Bytes

@@ -13,7 +13,7 @@ use Rattle.bits.specs.Fields.{fieldAt}
 use Rattle.rows.specs.Rows.{number, broken, first, each}
 use Rattle.rows.specs.declared.Check.{Check}
 use Rattle.rows.specs.declared.Field.{Field}
-use Rattle.rows.specs.declared.Field.the-variants.{Sx, Sy}
+use Rattle.rows.specs.declared.Field.the-variants.{Across, Down}
 use Rattle.rows.specs.declared.Verdict.{Verdict}
 use Rattle.rows.specs.declared.Verdict.the-variants.{Fine, Refused}
 use Rattle.rows.proofs.Tables.{held, append-fine, numbered}
@@ -143,10 +143,10 @@ module _ (s : List ℕ) (h : Picture) (p c : ℕ) where
       let high = samples-of (h .hf) (syAt s p c) in
       let levels = levels-of (h .nly) (syAt s p c) in
       let sy = downChecks s h p c in
-      let down : (a : ℕ) → a ≤ 128 * place + 68 → Rising a behind (filterChecks Sy place high levels) = λ a l. filters-rising Sy place high levels a behind (omega arith) (omega arith) in
+      let down : (a : ℕ) → a ≤ 128 * place + 68 → Rising a behind (filterChecks Down place high levels) = λ a l. filters-rising Down place high levels a behind (omega arith) (omega arith) in
       let behind-sx : Rising (128 * place + 4) behind sy = (omega arith, (omega arith, (omega arith, down _ (omega arith)))) in
-      let across : (a : ℕ) → a ≤ 128 * place + 4 → Rising a behind (filterChecks Sx place wide (h .nlx) ++ sy) =
-      λ a l. rising-append a (128 * place + 4) behind (filterChecks Sx place wide (h .nlx)) sy (filters-rising Sx place wide (h .nlx) a (128 * place + 4) (omega arith) (omega arith)) behind-sx in
+      let across : (a : ℕ) → a ≤ 128 * place + 4 → Rising a behind (filterChecks Across place wide (h .nlx) ++ sy) =
+      λ a l. rising-append a (128 * place + 4) behind (filterChecks Across place wide (h .nlx)) sy (filters-rising Across place wide (h .nlx) a (128 * place + 4) (omega arith) (omega arith)) behind-sx in
       (omega arith, (omega arith, (omega arith, (omega arith, (omega arith, across _ (omega arith))))))
 
 -- ---- a segment, by its kind

@@ -11,7 +11,7 @@ use lib.ListN.{getD}
 use Rattle.whole.specs.Cells.{listed}
 use Rattle.whole.proofs.Lists.{listed-at, listed-past}
 use Rattle.rows.specs.Rows.{first}
-use Rattle.rows.specs.declared.Field.the-variants.{Sx, Sy}
+use Rattle.rows.specs.declared.Field.the-variants.{Across, Down}
 use Rattle.rows.specs.declared.Verdict.the-variants.{Fine}
 use Rattle.rows.proofs.Tables.{append-fine, each-fine, held}
 use Rattle.picture.specs.Picture.{Built}
@@ -50,11 +50,11 @@ module _ (s : List ℕ) (h : Picture) (p c : ℕ) (e : first (componentChecks s 
       let a = append-fine (acrossChecks s h p c) (downChecks s h p c) (d .1) in
       (d .0, a .0, a .1)
 
-  across-parts : (first (sxChecks s h p c) ≡ Fine) × (first (filterChecks Sx place wide (h .nlx)) ≡ Fine)
-  across-parts = append-fine (sxChecks s h p c) (filterChecks Sx place wide (h .nlx)) (component-parts .1)
+  across-parts : (first (sxChecks s h p c) ≡ Fine) × (first (filterChecks Across place wide (h .nlx)) ≡ Fine)
+  across-parts = append-fine (sxChecks s h p c) (filterChecks Across place wide (h .nlx)) (component-parts .1)
 
-  down-parts : (first (syChecks s h p c) ≡ Fine) × (first (filterChecks Sy place high levels) ≡ Fine)
-  down-parts = append-fine (syChecks s h p c) (filterChecks Sy place high levels) (component-parts .2)
+  down-parts : (first (syChecks s h p c) ≡ Fine) × (first (filterChecks Down place high levels) ≡ Fine)
+  down-parts = append-fine (syChecks s h p c) (filterChecks Down place high levels) (component-parts .2)
 
   sampled : Sampled h (depthAt s p c) (sxAt s p c) (syAt s p c)
   sampled =
@@ -69,8 +69,8 @@ module _ (s : List ℕ) (h : Picture) (p c : ℕ) (e : first (componentChecks s 
         sy = (y .0 .least, y .0 .most);
         colour = λ f. let b = eq-eqb (h .cpih) 1 f in omega (arith, x .0 .least, rw b at (x .1 .0 .most));
         levels = y .1 .1 .0 .most;
-        across = λ n l. held (levelChecks Sx place wide n) (each-fine (h .nlx) (levelChecks Sx place wide) (across-parts .1) n l) .0 .least;
-        down = λ n l. held (levelChecks Sy place high n) (each-fine levels (levelChecks Sy place high) (down-parts .1) n l) .0 .least;
+        across = λ n l. held (levelChecks Across place wide n) (each-fine (h .nlx) (levelChecks Across place wide) (across-parts .1) n l) .0 .least;
+        down = λ n l. held (levelChecks Down place high n) (each-fine levels (levelChecks Down place high) (down-parts .1) n l) .0 .least;
       }
 
   -- the last component

@@ -7,7 +7,7 @@ use lib.ListN.{length}
 use Rattle.rows.specs.Rows.{answer}
 use Rattle.rows.specs.declared.Check.{Check}
 use Rattle.rows.specs.declared.Field.{Field}
-use Rattle.rows.specs.declared.Field.the-variants.{Cdt, Wgt, Sx, Sy, Pih, Lcdt, Lwgt, Lpih}
+use Rattle.rows.specs.declared.Field.the-variants.{Cdt, Wgt, Across, Down, Pih, Lcdt, Lwgt, Lpih}
 use Rattle.rows.specs.declared.Row.the-variants.{Lacking}
 use Rattle.rows.proofs.Low.{Low, low, low-append, low-each}
 use Rattle.picture.specs.Markers.{PIH}
@@ -49,11 +49,11 @@ component-low s h p c =
     let wide = samples-of (h .wf) (sxAt s p c) in
     let high = samples-of (h .hf) (syAt s p c) in
     let levels = levels-of (h .nly) (syAt s p c) in
-    let across = filterChecks Sx place wide (h .nlx) in
-    let down = filterChecks Sy place high levels in
+    let across = filterChecks Across place wide (h .nlx) in
+    let down = filterChecks Down place high levels in
     low-append (depthChecks s h p c ++ sxChecks s h p c) (across ++ (syChecks s h p c ++ down)) (omega arith)
-    (low-append across (syChecks s h p c ++ down) (filter-low Sx place wide (h .nlx))
-    (low-append (syChecks s h p c) down (omega arith) (filter-low Sy place high levels)))
+    (low-append across (syChecks s h p c ++ down) (filter-low Across place wide (h .nlx))
+    (low-append (syChecks s h p c) down (omega arith) (filter-low Down place high levels)))
 
 -- ---- a segment
 

@@ -7,14 +7,14 @@ use mathlib.Core.Path.{_≡_}
 use Rattle.rows.specs.Rows.{number, first}
 use Rattle.rows.specs.declared.Check.{Check}
 use Rattle.rows.specs.declared.Field.{Field}
-use Rattle.rows.specs.declared.Field.the-variants.{Soc, Cap, Lcap, Pih, Lpih, Lcod, Wf, Hf, Cw, Hsl, Nc, Ng, Ss, Bw, Fq, Br, Fslc, Ppoc, Cpih, Nlx, Nly, Qpih, Fs, Rm, Next, Cdt, Wgt, Nlt, Cwd, Cts, Crg, Tpc, Wgr, Sli, Lcdt, B, Sx, Sy, Lwgt, G, Lcom, Tcom, Lcrg, Lcwd, Sd, Samples, Work, Marks, Distances, Slh, Lslh, Ysl, Lprc, Q, R, D, Packet, Dr, Significance, Counts, Data, Signs, Rest, Eoc, Tail}
+use Rattle.rows.specs.declared.Field.the-variants.{Soc, Cap, Lcap, Pih, Lpih, Lcod, Wf, Hf, Cw, Hsl, Nc, Ng, Ss, Bw, Fq, Br, Fslc, Ppoc, Cpih, Nlx, Nly, Qpih, Fs, Rm, Next, Cdt, Wgt, Nlt, Cwd, Cts, Crg, Tpc, Wgr, Sli, Lcdt, B, Sx, Sy, Across, Down, Lwgt, G, Lcom, Tcom, Lcrg, Lcwd, Sd, Samples, Work, Marks, Distances, Slh, Lslh, Ysl, Lprc, Precinct, Q, R, D, Packet, Dr, Significance, Counts, M, Ones, Data, Signs, Rest, Eoc, Tail}
 use Rattle.rows.specs.declared.Verdict.the-variants.{Fine}
 use Rattle.picture.specs.Opening.{startChecks}
 use Rattle.header.specs.Table.{headerChecks}
 
 -- the bit of its byte at which a field begins. Bytes that fields share: in Table A.7 Fq and Br; Fslc, Ppoc and Cpih; NLx and NLy; Lh, Rl, Qpih, Fs and Rm; in
--- Table A.15 sx and sy. Every other field of a header begins its byte, and Cw's rule, which joins Cw with sx, is checked at the last sx. What stands behind the
--- header is not ordered by this
+-- Table A.15 sx and sy, and with each the samples that a filter joins in its direction. Every other field of a header begins its byte, and Cw's rule, which joins
+-- Cw with sx, is checked at the last sx. What stands behind the header is not ordered by this
 abbrev pub bit : Field → ℕ
 bit Fq = 0
 bit Br = 4
@@ -28,6 +28,8 @@ bit Fs = 4
 bit Rm = 6
 bit Sx = 0
 bit Sy = 4
+bit Across = 0
+bit Down = 4
 bit Soc = 0
 bit Cap = 0
 bit Lcap = 0
@@ -69,6 +71,7 @@ bit Slh = 0
 bit Lslh = 0
 bit Ysl = 0
 bit Lprc = 0
+bit Precinct = 0
 bit Q = 0
 bit R = 0
 bit D = 0
@@ -76,6 +79,8 @@ bit Packet = 0
 bit Dr = 0
 bit Significance = 0
 bit Counts = 0
+bit M = 0
+bit Ones = 0
 bit Data = 0
 bit Signs = 0
 bit Rest = 0

@@ -1,8 +1,9 @@
 -- Columns of precincts: how wide and how many they are. Assumes nothing.
-use mathlib.Core.Path.{_≡_, sym, ap, _∙_}
-use Prim.Native.Nat.{ℕ, zero, suc, _*_, _^_, _≤_, _<_, max}
+use mathlib.Core.Path.{_≡_, refl, sym, ap, _∙_}
+use Prim.Native.Nat.{ℕ, zero, suc, _+_, _*_, _^_, _≤_, _<_, max}
 use native.Mathlib.Nat.{mul-le-mul, max-zero}
 use native.Mathlib.Decide.{decLe, decLt}
+use native.Mathlib.Numerals.{add-one}
 use native.Mathlib.Omega.{arith}
 use borrow.Author.Tests.{lt-ltb, le-ltb}
 use lib.Pow.{pow-pos, pow-mono}
@@ -44,6 +45,32 @@ largest-of f (suc n) i h = pick (decLt i n) (λ l. largest-of f n i l)
     pick (no k) ih =
         let e : i ≡ n = omega arith in
         rw e (omega arith)
+
+pub largest-next : (f : ℕ → ℕ) (n : ℕ) {m k : ℕ} → m ≡ largest f n → k ≡ f n → max m k ≡ largest f (n + 1)
+unfolding largest
+largest-next f n e g = rw (add-one n, e, g)
+
+pub largest-same : (f g : ℕ → ℕ) (n : ℕ) → ((k : ℕ) → k < n → f k ≡ g k) → largest f n ≡ largest g n
+unfolding largest
+largest-same f g zero same = refl
+largest-same f g (suc n) same = λ i. max (largest-same f g n (λ k l. same k (omega arith)) i) (same n (omega arith) i)
+
+-- one that is above 0 is one of the numbers
+pub record Reaches (f : ℕ → ℕ) (n : ℕ) : Type 0 where
+  pub k : ℕ
+  pub below : k < n
+  pub is : f k ≡ largest f n
+
+pub largest-reached : (f : ℕ → ℕ) (n : ℕ) → 0 < largest f n → Reaches f n
+unfolding largest
+largest-reached f zero h = absurd (omega arith)
+largest-reached f (suc n) h = by (decLt (largest f n) (f n)) (largest-reached f n)
+  where
+    by : Dec (largest f n < f n) → (0 < largest f n → Reaches f n) → Reaches f (suc n)
+    by (yes l) before = record { k = n; below = omega arith; is = omega arith }
+    by (no l) before =
+        let r = before (omega arith) in
+        record { k = r .k; below = omega (arith, r .below); is = r .is ∙ omega arith }
 
 module _ (s : Shape) (built : Built s) where
   pub largest-two : largest (sx s) (s .nc) ≤ 2

@@ -25,9 +25,9 @@ use Rattle.layout.proofs.Cells.{line-above, later-column}
 use Rattle.layout.proofs.Members.{Candidate, member-slot, common-share}
 use Rattle.layout.proofs.Shared.{shared-slot}
 use Rattle.counts.specs.declared.group.Group.{Group}
-use Rattle.counts.specs.declared.group.Group.the-variants.{Count, Cut as CutCode, High as HighCode}
+use Rattle.counts.specs.declared.group.Group.the-variants.{Count, Cut as CutCode, High as HighCode, Long as LongCode}
 use Rattle.counts.specs.declared.Line.{Line as Counted}
-use Rattle.counts.specs.declared.Line.the-variants.{Done, Cut, High}
+use Rattle.counts.specs.declared.Line.the-variants.{Done, Cut, High, Long}
 use Rattle.counts.specs.Lines.{State, Left, countCell, stored, unpack, turn, lineCounts}
 use Rattle.bits.specs.Groups.{Ncg, packed}
 use Rattle.counts.proofs.Laws.{line-other as counts-other}
@@ -131,7 +131,8 @@ module _ (s : List ℕ) (c : Setting) (p : Precinct) (slot at : ℕ) (cells : Li
           → Kept (λ (x : Counting). cell (x .2) a ≡ cell cells a) (λ (r : Counted × List ℤ). Unit {0}) (counted need y)
       by need (Done next more, l) h = h
       by need (Cut, l) h = tt
-      by need (High, l) h = tt
+      by need (High m, l) h = tt
+      by need (Long n, l) h = tt
 
       pick : (n : ℕ) (x : Counting) → n < candidates (c .shape) slot → cell (x .2) a ≡ cell cells a → (there : Bool) → line c p slot n .present ≡ there
           → Kept (λ (x : Counting). cell (x .2) a ≡ cell cells a) (λ (r : Counted × List ℤ). Unit {0}) (cond there (counted (x .1) (counting n x)) (go x))
@@ -160,4 +161,5 @@ module _ (s : List ℕ) (c : Setting) (p : Precinct) (slot at : ℕ) (cells : Li
       by n x m h (Count value next) =
           getD-set-other (x .2) (countCell (placeOf (line c p slot j)) n) a (packed value (codingIn s c p slot at j .t)) (pos 0) (apart j l e .count (4 * n) (omega arith)) ∙ h
       by n x m h CutCode = tt
-      by n x m h HighCode = tt
+      by n x m h (HighCode value) = tt
+      by n x m h (LongCode k) = tt

@@ -1,6 +1,6 @@
 -- A packet depends on its precinct's header, on the fields of its own header and on the bytes of its subpackets: streams that are the same in these leave the
 -- same. An accepted packet so depends on the bytes of its precinct. Assumes nothing.
-use Prim.Native.Nat.{ℕ, zero, suc, _+_, _-_, _*_, _/_, _≤_, _<_}
+use Prim.Native.Nat.{ℕ, zero, suc, _+_, _-_, _*_, _/_, _^_, _≤_, _<_}
 use mathlib.Core.Path.{_≡_, refl, _∙_}
 use mathlib.Core.Bool.{Bool, true, false, not, cond, _&&_}
 use mathlib.Core.List.{List, [], _∷_, _++_}
@@ -15,7 +15,7 @@ use Rattle.rows.specs.Rows.{check, ample, first, each}
 use Rattle.rows.specs.declared.Verdict.{Verdict}
 use Rattle.rows.specs.declared.Verdict.the-variants.{Fine, Refused}
 use Rattle.rows.specs.declared.Row.the-variants.{Length, Count, Mode}
-use Rattle.rows.specs.declared.Field.the-variants.{Packet, Dr, Significance, Counts, Data, Signs}
+use Rattle.rows.specs.declared.Field.the-variants.{Packet, Dr, Significance, Counts, M, Ones, Data, Signs}
 use Rattle.bits.specs.Packet.{headerBits, headerBytes}
 use Rattle.bits.specs.Alike.{Alike}
 use Rattle.bits.proofs.Alike.{alike-part, field-alike, stretch-alike}
@@ -24,7 +24,7 @@ use Rattle.layout.specs.Headers.{mode-bit, header-bytes}
 use Rattle.layout.specs.Slots.{candidates, sharing}
 use Rattle.layout.proofs.Sums.{modes-past}
 use Rattle.counts.specs.declared.Line.{Line as Counted}
-use Rattle.counts.specs.declared.Line.the-variants.{Done, Cut, High}
+use Rattle.counts.specs.declared.Line.the-variants.{Done, Cut, High, Long}
 use Rattle.counts.specs.Lines.{lineCounts}
 use Rattle.packets.specs.declared.Setting.{Setting}
 use Rattle.packets.specs.declared.Precinct.{Precinct}
@@ -103,20 +103,21 @@ module _ (s s′ : List ℕ) (c : Setting) (p : Precinct) (slot : ℕ) (slotted 
     head-checks-alike : (raws : List ℕ) → headChecks s′ c p slot at raws ≡ headChecks s c p slot at raws
     head-checks-alike raws = λ i.
         let cnt = sigAt s c p slot at + sig-alike i in
-        check Length (p .at) Packet (p .end - at) (headerBytes (c .widths)) ample
+        check Length (p .at) Packet (headerBytes (c .widths)) 0 (p .end - at)
         ∷ (flag-checks-alike raws i
-        ++ (check Length (sigAt s c p slot at) Significance (p .end - sigAt s c p slot at) (sig-alike i) ample
-        ∷ check Length cnt Counts (p .end - cnt) (lcnt i) ample
+        ++ (check Length (sigAt s c p slot at) Significance (sig-alike i) 0 (p .end - sigAt s c p slot at)
+        ∷ check Length cnt Counts (lcnt i) 0 (p .end - cnt)
         ∷ []))
 
     counted-alike : (k : Counted) → countChecks s′ c p slot at k ++ dataChecks s′ c p slot at k ≡ countChecks s c p slot at k ++ dataChecks s c p slot at k
     counted-alike (Done next need) = λ i.
-        check Length (dat-alike i) Data (p .end - dat-alike i) (ldat i) ample
+        check Length (dat-alike i) Data (ldat i) 0 (p .end - dat-alike i)
         ∷ check Length (dat-alike i) Data (ldat i) (ceilDiv need 2) ample
-        ∷ check Length (dat-alike i + ldat i) Signs (p .end - (dat-alike i + ldat i)) (signs i) ample
+        ∷ check Length (dat-alike i + ldat i) Signs (signs i) 0 (p .end - (dat-alike i + ldat i))
         ∷ []
     counted-alike Cut = λ i. check Length (sigAt s c p slot at + sig-alike i) Counts (lcnt i) (lcnt i + 1) ample ∷ []
-    counted-alike High = λ i. check Count (sigAt s c p slot at + sig-alike i) Counts 32 0 31 ∷ []
+    counted-alike (High m) = λ i. check Count (sigAt s c p slot at + sig-alike i) M m 0 31 ∷ []
+    counted-alike (Long n) = λ i. check Count (sigAt s c p slot at + sig-alike i) Ones n 0 (2 ^ (c .br + 1) - 1) ∷ []
 
     sign-checks-alike : (used : ℕ) → signChecks s′ c p slot at used ≡ signChecks s c p slot at used
     sign-checks-alike used = λ i. check Length (dat-alike i + ldat i) Signs (signs i) (ceilDiv used 8) ample ∷ []

@@ -20,13 +20,13 @@ use Rattle.rows.specs.declared.Verdict.the-variants.{Fine, Refused}
 use Rattle.layout.specs.Cells.{start}
 use Rattle.layout.specs.Slots.{candidates}
 use Rattle.bits.specs.Groups.{Ncg, packed}
-use Rattle.counts.specs.Lines.{countCell, State, Left, stored, unpack, turn, end, lineCounts}
+use Rattle.counts.specs.Lines.{countCell, State, Left, stored, unpack, turn, end, lineCounts, Founded}
 use Rattle.counts.specs.declared.group.Coding.{Coding}
 use Rattle.counts.specs.declared.group.Group.{Group}
-use Rattle.counts.specs.declared.group.Group.the-variants.{Count, Cut as CutCode, High as HighCode}
+use Rattle.counts.specs.declared.group.Group.the-variants.{Count, Cut as CutCode, High as HighCode, Long as LongCode}
 use Rattle.counts.specs.declared.Place.{Place}
 use Rattle.counts.specs.declared.Line.{Line as Counted}
-use Rattle.counts.specs.declared.Line.the-variants.{Done, Cut, High}
+use Rattle.counts.specs.declared.Line.the-variants.{Done, Cut, High, Long}
 use Rattle.counts.proofs.Lines.{Sound, unpack-sound}
 use Rattle.counts.proofs.Laws.{line-length as counts-length, line-other as counts-other}
 use Rattle.values.proofs.Laws.{line-other as values-other}
@@ -40,7 +40,7 @@ use Rattle.packets.specs.Counted.{codingIn, beforeCounts, beforeGroup}
 use Rattle.packets.specs.Stored.{groupM, storedM}
 use Rattle.packets.proofs.Addresses.{same-counts, count-apart}
 use Rattle.packets.proofs.Lines.{lies, there-in, stride-some}
-use Rattle.packets.proofs.Laws.{clash, cut-refused, high-refused, values-keep}
+use Rattle.packets.proofs.Laws.{clash, counts-founded, cut-refused, high-refused, long-refused, values-keep}
 
 -- what stops is not done
 stopped : {S A : Type 0} {v : Counted} {z : A} {r : Counted × A} {next need : ℕ} {l : A} → _≡_ {A = Turn S (Counted × A)} (stop (v, z)) (stop r) → r ≡ (Done next need, l)
@@ -50,10 +50,11 @@ stopped {A = A} {v} {z} {r} e f =
     ap (λ (y : Counted × A). y .0) (q ∙ f)
 
 -- a count is at most 31
-group-few : (s : List ℕ) (i : ℕ) (y : Group) → Sound s i y → groupM y ≤ 31
-group-few s i (Count m next) f = f .0
-group-few s i CutCode f = omega arith
-group-few s i HighCode f = omega arith
+group-few : (s : List ℕ) (br i : ℕ) (y : Group) → Sound s br i y → groupM y ≤ 31
+group-few s br i (Count m next) f = f .0
+group-few s br i CutCode f = omega arith
+group-few s br i (HighCode m) f = omega arith
+group-few s br i (LongCode n) f = omega arith
 
 -- ---- a line that is done
 
@@ -68,7 +69,8 @@ module _ (s sig : List ℕ) (c : Coding) (p : Place) (i z : ℕ) (cells : List �
   line-stops : (x : State) (to : ℕ) (y : Group) (r : Left) → stored c to x y ≡ stop r → r ≡ (Done next need, l) → ⊥
   line-stops x to (Count m n) r e f = let w : _≡_ {A = ℕ} 0 1 = cc in omega arith
   line-stops x to CutCode r e f = let d = stopped e f in let w : _≡_ {A = ℕ} 0 1 = cc in omega arith
-  line-stops x to HighCode r e f = let d = stopped e f in let w : _≡_ {A = ℕ} 0 1 = cc in omega arith
+  line-stops x to (HighCode m) r e f = let d = stopped e f in let w : _≡_ {A = ℕ} 0 1 = cc in omega arith
+  line-stops x to (LongCode n) r e f = let d = stopped e f in let w : _≡_ {A = ℕ} 0 1 = cc in omega arith
 
   turns : Turns (turn s sig c p z) (i, 0, cells) end (Ncg (p .width))
   unfolding turn lineCounts
@@ -84,7 +86,8 @@ module _ (s sig : List ℕ) (c : Coding) (p : Place) (i z : ℕ) (cells : List �
       by : (y : Group) → stored c (countCell p g) (state g) y ≡ go (state (g + 1)) → state (g + 1) .2 ≡ set (state g .2) (countCell p g) (packed (groupM y) (c .t))
       by (Count m n) e = sym (ap (λ (u : Turn State Left). then u (λ x. x .2) (λ r. r .1)) e)
       by CutCode e = let w : _≡_ {A = ℕ} 0 1 = cc in absurd (omega arith)
-      by HighCode e = let w : _≡_ {A = ℕ} 0 1 = cc in absurd (omega arith)
+      by (HighCode m) e = let w : _≡_ {A = ℕ} 0 1 = cc in absurd (omega arith)
+      by (LongCode n) e = let w : _≡_ {A = ℕ} 0 1 = cc in absurd (omega arith)
 
   module _ (inside : (g : ℕ) → g < Ncg (p .width) → countCell p g < length cells) (wide : 0 < p .stride) (g : ℕ) (h : g < Ncg (p .width)) where
     abbrev Reached : ℕ → State → Type 0
@@ -131,7 +134,7 @@ module _ (c : Setting) (p : Precinct) (slot : ℕ) (h : Slotted c p slot) (j g :
       let code = codingIn s c p slot from j in
       let place = placeOf (line c p slot j) in
       let z = marks s c p slot (raw s c p slot from) j in
-      group-few (countBytes s c p slot from) (x .0) (unpack (code .mode) (countBytes s c p slot from) (markBytes s c p slot from) code place z g (x .0) (x .2))
+      group-few (countBytes s c p slot from) (code .br) (x .0) (unpack (code .mode) (countBytes s c p slot from) (markBytes s c p slot from) code place z g (x .0) (x .2))
       (unpack-sound (countBytes s c p slot from) (x .0) (code .mode) (markBytes s c p slot from) code place z g (x .2))
 
   -- the counts of line n
@@ -162,7 +165,8 @@ module _ (c : Setting) (p : Precinct) (slot : ℕ) (h : Slotted c p slot) (j g :
     packet-stops : (x : Counting) (b : Bool) (y r : Counted × List ℤ) → cond b (counted (x .1) y) (go x) ≡ stop r → r ≡ (Done next need, l) → ⊥
     packet-stops x true (Done n m, l′) r e d = let w : _≡_ {A = ℕ} 0 1 = cc in omega arith
     packet-stops x true (Cut, l′) r e d = let v = stopped e d in let w : _≡_ {A = ℕ} 0 1 = cc in omega arith
-    packet-stops x true (High, l′) r e d = let v = stopped e d in let w : _≡_ {A = ℕ} 0 1 = cc in omega arith
+    packet-stops x true (High m, l′) r e d = let v = stopped e d in let w : _≡_ {A = ℕ} 0 1 = cc in omega arith
+    packet-stops x true (Long n, l′) r e d = let v = stopped e d in let w : _≡_ {A = ℕ} 0 1 = cc in omega arith
     packet-stops x false y r e d = let w : _≡_ {A = ℕ} 0 1 = cc in omega arith
 
     lines-turn : Turns (countTurn s c p slot (countBytes s c p slot from) (markBytes s c p slot from) (raw s c p slot from)) (0, 0, cells)
@@ -197,7 +201,8 @@ module _ (c : Setting) (p : Precinct) (slot : ℕ) (h : Slotted c p slot) (j g :
                 let same : n ≡ j = omega arith in
                 stores (rw same at (q .0)) (rw same at r)
         by-line e (Cut, l′) r w = let z : _≡_ {A = ℕ} 0 1 = cc in absurd (omega arith)
-        by-line e (High, l′) r w = let z : _≡_ {A = ℕ} 0 1 = cc in absurd (omega arith)
+        by-line e (High m, l′) r w = let z : _≡_ {A = ℕ} 0 1 = cc in absurd (omega arith)
+        by-line e (Long k, l′) r w = let z : _≡_ {A = ℕ} 0 1 = cc in absurd (omega arith)
 
         by : (t : Bool) → line c p slot n .present ≡ t → cond t (counted (reached n .1) (counting n)) (go (reached n)) ≡ go (reached (n + 1)) → Carries (n + 1) (reached (n + 1))
         by true e w = by-line e (counting n) refl w
@@ -232,14 +237,15 @@ module _ (c : Setting) (p : Precinct) (slot : ℕ) (h : Slotted c p slot) (j g :
       _ _ l q
   values-leave (Refused r) l q = q
 
-  after-counts : (x : Counted × List ℤ) → countsOf s c p slot from cells ≡ x → afterCounts s c p slot from x .0 ≡ Fine
+  after-counts : (x : Counted × List ℤ) → countsOf s c p slot from cells ≡ x → Founded (c .br) (x .0) → afterCounts s c p slot from x .0 ≡ Fine
       → own (x .1) × own (afterCounts s c p slot from x .1)
-  after-counts (Done next need, l) q e = let held = counts-hold q in (held, values-leave (first (dataChecks s c p slot from (Done next need))) l held)
-  after-counts (Cut, l) q e = absurd (cut-refused s c p slot from l e)
-  after-counts (High, l) q e = absurd (high-refused s c p slot from l e)
+  after-counts (Done next need, l) q b e = let held = counts-hold q in (held, values-leave (first (dataChecks s c p slot from (Done next need))) l held)
+  after-counts (Cut, l) q b e = absurd (cut-refused s c p slot from l e)
+  after-counts (High m, l) q b e = absurd (high-refused s c p slot from m l b e)
+  after-counts (Long n, l) q b e = absurd (long-refused s c p slot from n l b e)
 
   by-counts : (v : Verdict) → countsBy s c p slot from v cells .0 ≡ Fine → own (countsOf s c p slot from cells .1) × own (countsBy s c p slot from v cells .1)
-  by-counts Fine e = after-counts (countsOf s c p slot from cells) refl e
+  by-counts Fine e = after-counts (countsOf s c p slot from cells) refl (counts-founded s c p slot _ _ _ cells) e
   by-counts (Refused r) e = clash e
 
   module _ (raws : List ℕ) (fine : packet s c p slot from raws cells .0 ≡ Fine) where

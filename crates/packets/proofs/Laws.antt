@@ -6,7 +6,7 @@ use Prim.Native.Nat.{ℕ, zero, suc, _+_, _*_, _^_, _≤_, _<_}
 use native.Mathlib.Omega.{arith}
 use borrow.Author.Tests.{eqb-true, eqb-false}
 use lib.Dec.{eqb}
-use lib.Pow.{pow-mono}
+use lib.Pow.{pow-pos, pow-mono}
 use lib.Seq.{getD-set-same, getD-set-other}
 use lib.IntN.{ℤ, pos, natAbs}
 use lib.ListN.{length, set, length-set}
@@ -22,9 +22,9 @@ use Rattle.layout.specs.declared.Line.{Line}
 use Rattle.layout.specs.Slots.{candidates}
 use Rattle.counts.specs.declared.group.Coding.{Coding}
 use Rattle.counts.specs.declared.Line.{Line as Counted}
-use Rattle.counts.specs.declared.Line.the-variants.{Done, Cut, High}
-use Rattle.counts.specs.Lines.{lineCounts}
-use Rattle.counts.proofs.Laws.{line-keeps, line-length as counts-length, line-other as counts-other}
+use Rattle.counts.specs.declared.Line.the-variants.{Done, Cut, High, Long}
+use Rattle.counts.specs.Lines.{lineCounts, Founded}
+use Rattle.counts.proofs.Laws.{line-founded, line-keeps, line-length as counts-length, line-other as counts-other}
 use Rattle.values.specs.declared.Next.{Next}
 use Rattle.values.specs.Line.{placed, valueAt, lineValues}
 use Rattle.values.proofs.Laws.{value-small, line-length as values-length, line-other as values-other}
@@ -37,6 +37,32 @@ use Rattle.packets.specs.Packets.{past, datAt, headChecks, countChecks, 
 use Rattle.packets.proofs.LinePasses.{T-most}
 use Rattle.packets.proofs.Stretches.{head-inside}
 
+-- ---- the counts of a packet are refused for what is out of range, as each line's are
+
+module _ (s : List ℕ) (c : Setting) (p : Precinct) (slot : ℕ) (cnt sig : List ℕ) (raw : Bool) where
+  abbrev Stands : Counted × List ℤ → Type 0
+  Stands x = Founded (c .br) (x .0)
+
+  counted-founded : (need : ℕ) (x : Counted × List ℤ) → Stands x → Kept (λ (y : Counting). Unit {0}) Stands (counted need x)
+  counted-founded need (Done next more, cells) h = tt
+  counted-founded need (Cut, cells) h = tt
+  counted-founded need (High m, cells) h = h
+  counted-founded need (Long n, cells) h = h
+
+  pub counts-founded : (cells : List ℤ) → Founded (c .br) (packetCounts s c p slot cnt sig raw cells .0)
+  unfolding packetCounts countTurn
+  counts-founded cells =
+      run-keeps (λ (y : Counting). Unit {0}) Stands (countTurn s c p slot cnt sig raw) _ (candidates (c .shape) slot)
+      (λ x h. tt) (λ j x l h. pick j x (line c p slot j .present)) (candidates (c .shape) slot) 0 (0, 0, cells) (omega arith) tt
+    where
+      pick : (j : ℕ) (x : Counting) (b : Bool) → Kept (λ (y : Counting). Unit {0}) Stands
+          (cond b (counted (x .1) (lineCounts cnt sig (codingOf s c p raw (line c p slot j .band)) (placeOf (line c p slot j)) (x .0) (marks s c p slot raw j) (x .2))) (go x))
+      pick j x true =
+          let code = codingOf s c p raw (line c p slot j .band) in
+          let place = placeOf (line c p slot j) in
+          counted-founded (x .1) (lineCounts cnt sig code place (x .0) (marks s c p slot raw j) (x .2)) (line-founded cnt sig code place (x .0) (marks s c p slot raw j) (x .2))
+      pick j x false = tt
+
 -- ---- where a packet ends
 
 pub clash : {A : Type 0} {k : Check} → Refused k ≡ Fine → A
@@ -47,26 +73,32 @@ module _ (s : List ℕ) (c : Setting) (p : Precinct) (slot at : ℕ) where
   values-fine Fine cells e = refl
   values-fine (Refused k) cells e = clash e
 
-  -- counts that are cut, or too high, refuse the packet
+  -- counts that are cut, or too high, or of codes that are too long, refuse the packet
   pub cut-refused : (cells : List ℤ) → afterCounts s c p slot at (Cut, cells) .0 ≡ Fine → ⊥
   cut-refused cells e =
       let t = held (countChecks s c p slot at Cut) (values-fine _ cells e) in
       omega (arith, t .0 .least)
 
-  pub high-refused : (cells : List ℤ) → afterCounts s c p slot at (High, cells) .0 ≡ Fine → ⊥
-  high-refused cells e =
-      let t = held (countChecks s c p slot at High) (values-fine _ cells e) in
+  pub high-refused : (m : ℕ) (cells : List ℤ) → 31 < m → afterCounts s c p slot at (High m, cells) .0 ≡ Fine → ⊥
+  high-refused m cells h e =
+      let t = held (countChecks s c p slot at (High m)) (values-fine _ cells e) in
       omega (arith, t .0 .most)
 
-  after-fine : (x : Counted × List ℤ) → datAt s c p slot at ≤ p .end → afterCounts s c p slot at x .0 ≡ Fine → past s c p slot at ≤ p .end
-  after-fine (Done next need, cells) h e =
+  pub long-refused : (n : ℕ) (cells : List ℤ) → 2 ^ (c .br + 1) ≤ n → afterCounts s c p slot at (Long n, cells) .0 ≡ Fine → ⊥
+  long-refused n cells h e =
+      let t = held (countChecks s c p slot at (Long n)) (values-fine _ cells e) in
+      omega (arith, t .0 .most, pow-pos (c .br + 1))
+
+  after-fine : (x : Counted × List ℤ) → Founded (c .br) (x .0) → datAt s c p slot at ≤ p .end → afterCounts s c p slot at x .0 ≡ Fine → past s c p slot at ≤ p .end
+  after-fine (Done next need, cells) f h e =
       let t = held (dataChecks s c p slot at (Done next need)) (values-fine _ cells e) in
-      omega (arith, t .0 .least, t .1 .1 .0 .least)
-  after-fine (Cut, cells) h e = absurd (cut-refused cells e)
-  after-fine (High, cells) h e = absurd (high-refused cells e)
+      omega (arith, t .0 .most, t .1 .1 .0 .most)
+  after-fine (Cut, cells) f h e = absurd (cut-refused cells e)
+  after-fine (High m, cells) f h e = absurd (high-refused m cells f e)
+  after-fine (Long n, cells) f h e = absurd (long-refused n cells f e)
 
   counts-fine : (v : Verdict) (cells : List ℤ) → (v ≡ Fine → datAt s c p slot at ≤ p .end) → countsBy s c p slot at v cells .0 ≡ Fine → past s c p slot at ≤ p .end
-  counts-fine Fine cells h e = after-fine (countsOf s c p slot at cells) (h refl) e
+  counts-fine Fine cells h e = after-fine (countsOf s c p slot at cells) (counts-founded s c p slot _ _ _ cells) (h refl) e
   counts-fine (Refused k) cells h e = clash e
 
   -- where nothing is refused, not past its precinct
@@ -90,7 +122,8 @@ module _ (c : Setting) (p : Precinct) (slot : ℕ) (P : List ℤ → Type 0) whe
   counted-keeps : (need : ℕ) (x : Counted × List ℤ) → P (x .1) → Kept (λ (x : Counting). P (x .2)) (λ (x : Counted × List ℤ). P (x .1)) (counted need x)
   counted-keeps need (Done next more, cells) h = h
   counted-keeps need (Cut, cells) h = h
-  counted-keeps need (High, cells) h = h
+  counted-keeps need (High m, cells) h = h
+  counted-keeps need (Long n, cells) h = h
 
   pub counts-keep : CountsKeep → (s cnt sig : List ℕ) (raw : Bool) (cells : List ℤ) → P cells → P (packetCounts s c p slot cnt sig raw cells .1)
   unfolding packetCounts countTurn

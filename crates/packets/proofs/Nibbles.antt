@@ -18,9 +18,9 @@ use Rattle.rows.proofs.Tables.{held}
 use Rattle.layout.specs.declared.Line.{Line}
 use Rattle.layout.specs.Cells.{start}
 use Rattle.layout.specs.Slots.{candidates}
-use Rattle.counts.specs.Lines.{countCell, lineCounts}
+use Rattle.counts.specs.Lines.{countCell, lineCounts, Founded}
 use Rattle.counts.specs.declared.Line.{Line as Counted}
-use Rattle.counts.specs.declared.Line.the-variants.{Done, Cut, High}
+use Rattle.counts.specs.declared.Line.the-variants.{Done, Cut, High, Long}
 use Rattle.counts.proofs.Laws.{total, total-more, total-none, takes, done-sum, line-length as counts-length, line-other as counts-other}
 use Rattle.values.specs.declared.Next.{Next}
 use Rattle.values.specs.Line.{countPlace, M, lineValues}
@@ -34,7 +34,7 @@ use Rattle.packets.specs.Packets.{head, headChecks, dataChecks, afterCou
 use Rattle.packets.specs.Table.{valuesAfter}
 use Rattle.packets.proofs.Addresses.{same-counts, count-apart}
 use Rattle.packets.proofs.Lines.{lies, there-in, stride-some}
-use Rattle.packets.proofs.Laws.{clash, values-fine, cut-refused, high-refused}
+use Rattle.packets.proofs.Laws.{clash, counts-founded, values-fine, cut-refused, high-refused, long-refused}
 
 -- ---- a line: both passes read M of a group from the same cell
 module _ (s : List ℕ) (c : Setting) (p : Precinct) (raw : Bool) (l : Line) where
@@ -92,7 +92,8 @@ module _ (c : Setting) (p : Precinct) (slot : ℕ) (h : Slotted c p slot) where
     abbrev Asked : Counted × List ℤ → Type 0
     Asked (Done next need, l) = need ≡ total (asked l) (candidates (c .shape) slot)
     Asked (Cut, l) = Unit {0}
-    Asked (High, l) = Unit {0}
+    Asked (High m, l) = Unit {0}
+    Asked (Long n, l) = Unit {0}
 
     by-result : (n : ℕ) (x : Counting) → n < candidates (c .shape) slot → Carries n x → line c p slot n .present ≡ true → (y : Counted × List ℤ)
         → counting n x ≡ y → Kept (Carries (n + 1)) Asked (counted (x .1) y)
@@ -107,7 +108,8 @@ module _ (c : Setting) (p : Precinct) (slot : ℕ) (h : Slotted c p slot) where
           (λ g m. omega (arith, q .0, lies c p slot n h l e .inside (Ng * g) (omega arith))) (stride-some c p slot n))),
     )
     by-result n x l q e (Cut, l′) r = tt
-    by-result n x l q e (High, l′) r = tt
+    by-result n x l q e (High m, l′) r = tt
+    by-result n x l q e (Long k, l′) r = tt
 
     pick : (n : ℕ) (x : Counting) → n < candidates (c .shape) slot → Carries n x → (b : Bool) → line c p slot n .present ≡ b
         → Kept (Carries (n + 1)) Asked (cond b (counted (x .1) (counting n x)) (go x))
@@ -167,15 +169,16 @@ module _ (c : Setting) (p : Precinct) (slot : ℕ) (h : Slotted c p slot) where
     abbrev Held : Type 0
     Held = ceilDiv (valuesAfter s c p slot at cells .0 .at) 2 ≤ head s c p slot at .ldat
 
-    by-counts : (x : Counted × List ℤ) → countsOf s c p slot at cells ≡ x → afterCounts s c p slot at x .0 ≡ Fine → Held
-    by-counts (Done next need, l) e f =
+    by-counts : (x : Counted × List ℤ) → countsOf s c p slot at cells ≡ x → Founded (c .br) (x .0) → afterCounts s c p slot at x .0 ≡ Fine → Held
+    by-counts (Done next need, l) e k f =
         let t = held (dataChecks s c p slot at (Done next need)) (values-fine s c p slot at _ l f) in
         rw (packet-need s at cells room (ap (λ (x : Counted × List ℤ). x .0) e)) (t .1 .0 .least)
-    by-counts (Cut, l) e f = absurd (cut-refused s c p slot at l f)
-    by-counts (High, l) e f = absurd (high-refused s c p slot at l f)
+    by-counts (Cut, l) e k f = absurd (cut-refused s c p slot at l f)
+    by-counts (High m, l) e k f = absurd (high-refused s c p slot at m l k f)
+    by-counts (Long n, l) e k f = absurd (long-refused s c p slot at n l k f)
 
     by-head : (v : Verdict) → countsBy s c p slot at v cells .0 ≡ Fine → Held
-    by-head Fine e = by-counts (countsOf s c p slot at cells) refl e
+    by-head Fine e = by-counts (countsOf s c p slot at cells) refl (counts-founded s c p slot _ _ _ cells) e
     by-head (Refused k) e = clash e
 
     pub data-held : (raws : List ℕ) → packet s c p slot at raws cells .0 ≡ Fine → Held

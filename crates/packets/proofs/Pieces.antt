@@ -19,8 +19,8 @@ use Rattle.pieces.specs.Pieces.{Packets, Significance, Counts, Data, Signs, tot
 use Rattle.layout.specs.Cells.{start}
 use Rattle.layout.specs.Slots.{candidates}
 use Rattle.counts.specs.declared.Line.{Line as Counted}
-use Rattle.counts.specs.declared.Line.the-variants.{Done, Cut, High}
-use Rattle.counts.specs.Lines.{lineCounts}
+use Rattle.counts.specs.declared.Line.the-variants.{Done, Cut, High, Long}
+use Rattle.counts.specs.Lines.{lineCounts, Founded}
 use Rattle.counts.proofs.Laws.{done-to}
 use Rattle.packets.specs.declared.Setting.{Setting}
 use Rattle.packets.specs.declared.Precinct.{Precinct}
@@ -34,7 +34,7 @@ use Rattle.packets.specs.Packets.{head, cntAt, Lsign, past, countBytes, 
 use Rattle.packets.specs.Table.{valuesAfter}
 use Rattle.packets.specs.Pieces.{countContent, dataContent, signContent, packetPieces}
 use Rattle.packets.specs.Steps.{IsParts, Holds, partBytes, reached, Opening, IsContent, IsPassed, Decoded}
-use Rattle.packets.proofs.Laws.{clash, values-fine, cut-refused, high-refused}
+use Rattle.packets.proofs.Laws.{clash, counts-founded, values-fine, cut-refused, high-refused, long-refused}
 use Rattle.packets.proofs.Nibbles.{packet-need}
 use Rattle.packets.proofs.Stretches.{long-cnt, long-dat, long-sgn, counts-stand}
 
@@ -44,7 +44,8 @@ use Rattle.packets.proofs.Stretches.{long-cnt, long-dat, long-sgn, coun
 abbrev Ends : ℕ → Counted × List ℤ → Type 0
 Ends bytes (Done next need, l) = next ≤ 8 * bytes
 Ends bytes (Cut, l) = Unit {0}
-Ends bytes (High, l) = Unit {0}
+Ends bytes (High m, l) = Unit {0}
+Ends bytes (Long n, l) = Unit {0}
 
 module _ (s : List ℕ) (c : Setting) (p : Precinct) (slot : ℕ) (cnt sig : List ℕ) (raw : Bool) where
   abbrev counting : ℕ → Counting → Counted × List ℤ
@@ -56,7 +57,8 @@ module _ (s : List ℕ) (c : Setting) (p : Precinct) (slot : ℕ) (cnt sig : Lis
   line-ends : (j : ℕ) (x : Counting) → Before x → (y : Counted × List ℤ) → counting j x ≡ y → Kept Before (Ends (length cnt)) (counted (x .1) y)
   line-ends j x h (Done next more, l) e = done-to cnt sig _ _ (x .0) _ (x .2) e h
   line-ends j x h (Cut, l) e = tt
-  line-ends j x h (High, l) e = tt
+  line-ends j x h (High m, l) e = tt
+  line-ends j x h (Long n, l) e = tt
 
   turn-ends : (j : ℕ) (x : Counting) → Before x → (b : Bool) → Kept Before (Ends (length cnt)) (cond b (counted (x .1) (counting j x)) (go x))
   turn-ends j x h true = line-ends j x h (counting j x) refl
@@ -83,10 +85,14 @@ module _ (s : List ℕ) (c : Setting) (p : Precinct) (slot at : ℕ) (cells : Li
   counts-fit : (x : Counted × List ℤ) → Ends (length (countBytes s c p slot at)) x → countContent (x .0) ≤ head s c p slot at .lcnt
   counts-fit (Done next need, l) h = omega (arith, h, length-take (head s c p slot at .lcnt) (drop (cntAt s c p slot at) s))
   counts-fit (Cut, l) h = omega arith
-  counts-fit (High, l) h = omega arith
+  counts-fit (High m, l) h = omega arith
+  counts-fit (Long n, l) h = omega arith
 
-  by-counts : (x : Counted × List ℤ) → counts ≡ x → afterCounts s c p slot at x .0 ≡ Fine → Fits
-  by-counts (Done next need, l) e f =
+  founded : Founded (c .br) (counts .0)
+  founded = counts-founded s c p slot _ _ _ cells
+
+  by-counts : (x : Counted × List ℤ) → counts ≡ x → Founded (c .br) (x .0) → afterCounts s c p slot at x .0 ≡ Fine → Fits
+  by-counts (Done next need, l) e k f =
       let w = values-fine s c p slot at _ l f in
       let t = held (dataChecks s c p slot at (Done next need)) w in
       let read = packetValues c p slot (dataBytes s c p slot at) (signBytes s c p slot at) l .0 in
@@ -96,11 +102,12 @@ module _ (s : List ℕ) (c : Setting) (p : Precinct) (slot at : ℕ) (cells : Li
         nibbles = rw e (t .1 .0 .least);
         signs = rw e (held (signChecks s c p slot at (read .sign)) judged .0 .least);
       }
-  by-counts (Cut, l) e f = absurd (cut-refused s c p slot at l f)
-  by-counts (High, l) e f = absurd (high-refused s c p slot at l f)
+  by-counts (Cut, l) e k f = absurd (cut-refused s c p slot at l f)
+  by-counts (High m, l) e k f = absurd (high-refused s c p slot at m l k f)
+  by-counts (Long n, l) e k f = absurd (long-refused s c p slot at n l k f)
 
   by-head : (v : Verdict) → countsBy s c p slot at v cells .0 ≡ Fine → Fits
-  by-head Fine e = by-counts counts refl e
+  by-head Fine e = by-counts counts refl founded e
   by-head (Refused k) e = clash e
 
   pub packet-fits : (raws : List ℕ) → packet s c p slot at raws cells .0 ≡ Fine → Fits
@@ -169,7 +176,7 @@ module _ (s : List ℕ) (c : Setting) (p : Precinct) (slot at : ℕ) (cells : Li
       pub content-holds : r .verdict ≡ Fine → Holds parts (r .counts) (r .«data») (r .signs)
       content-holds f =
           let same = contents f in
-          rw (same .0, same .1, same .2) (parts-hold (by-counts counts refl ((λ i. afterCounts s c p slot at (e i) .0) ∙ fine-after f)))
+          rw (same .0, same .1, same .2) (parts-hold (by-counts counts refl founded ((λ i. afterCounts s c p slot at (e i) .0) ∙ fine-after f)))
 
       pub passed-on : {v : Verdict} {b : Bytes} → v ≡ Fine → b ≡ bytesBy (r .verdict) (partBytes parts (r .counts) (r .«data») (r .signs))
           → IsPassed s c p slot at v cells (record { verdict = r .verdict; bytes = b }) cells′

@@ -20,10 +20,10 @@ use Rattle.counts.specs.declared.group.Coding.{Coding}
 use Rattle.counts.specs.declared.group.Mode.{Mode}
 use Rattle.counts.specs.declared.group.Mode.the-variants.{Raw, NoPrediction, Vertical}
 use Rattle.counts.specs.declared.group.Group.{Group}
-use Rattle.counts.specs.declared.group.Group.the-variants.{Count, Cut as CutCode, High as HighCode}
+use Rattle.counts.specs.declared.group.Group.the-variants.{Count, Cut as CutCode, High as HighCode, Long as LongCode}
 use Rattle.counts.specs.declared.Place.{Place}
 use Rattle.counts.specs.declared.Line.{Line as Counted}
-use Rattle.counts.specs.declared.Line.the-variants.{Done, Cut, High}
+use Rattle.counts.specs.declared.Line.the-variants.{Done, Cut, High, Long}
 use Rattle.counts.specs.Groups.{unpackVertical}
 use Rattle.counts.specs.Lines.{countCell, insignificant, aboveCell, above, unpack, State, Left, stored, turn, end, lineCounts}
 use Rattle.values.specs.Group.{signBitsOf, index}
@@ -56,7 +56,8 @@ module _ (P : ℕ → Type 0) (s sig : List ℕ) (k : Coding) (p : Place) (z : �
   stored-same : (to : ℕ) (x y : State) (u : Group) → SameState x y → Both SameState SameLeft (stored k to x u) (stored k to y u)
   stored-same to x y (Count m next) h = (refl, (λ i. h .1 i + nibblesOf m (k .t) (k .fs)), same-set (h .2) to (packed m (k .t)))
   stored-same to x y CutCode h = (refl, h .2)
-  stored-same to x y HighCode h = (refl, h .2)
+  stored-same to x y (HighCode m) h = (refl, h .2)
+  stored-same to x y (LongCode n) h = (refl, h .2)
 
   turn-same : (g : ℕ) (x y : State) → g < Ncg (p .width) → SameState x y → Both SameState SameLeft (turn s sig k p z g x) (turn s sig k p z g y)
   unfolding turn
@@ -131,7 +132,8 @@ module _ {P : ℕ → Type 0} (s : List ℕ) (c : Setting) (p : Precinct) (slot 
       by : (x : Counted) → Both SameCounting (Results {A = Counted}) (counted n (x, a)) (counted m (x, b))
       by (Done next more) = (refl, (λ i. e i + more), same)
       by Cut = (refl, same)
-      by High = (refl, same)
+      by (High m) = (refl, same)
+      by (Long n) = (refl, same)
 
   packet-counts-same : (cnt sig : List ℕ) (raw : Bool) (a b : List ℤ) → Same P a b → Results (packetCounts s c p slot cnt sig raw a) (packetCounts s c p slot cnt sig raw b)
   unfolding packetCounts countTurn

@@ -2,10 +2,11 @@
 use mathlib.Core.Path.{_≡_, refl}
 use mathlib.Core.Bool.{Bool, true, false, cond}
 use mathlib.Core.List.{List, [], _∷_, _++_}
-use Prim.Native.Nat.{ℕ, _≤_}
+use Prim.Native.Nat.{ℕ, _+_, _≤_}
 use native.Mathlib.Omega.{arith}
 use lib.IntN.{ℤ}
 use lib.ListN.{getD}
+use lib.Pow.{pow-pos}
 use Rattle.rows.specs.Rows.{check, first, each}
 use Rattle.rows.specs.declared.Check.{Check}
 use Rattle.rows.specs.declared.Row.the-variants.{Mode}
@@ -16,11 +17,13 @@ use Rattle.rows.proofs.Tables.{held}
 use Rattle.rows.proofs.Sites.{Inside, Sited, sited, sited-append, sited-each}
 use Rattle.layout.specs.Slots.{sharing}
 use Rattle.counts.specs.declared.Line.{Line as Counted}
-use Rattle.counts.specs.declared.Line.the-variants.{Done, Cut, High}
+use Rattle.counts.specs.declared.Line.the-variants.{Done, Cut, High, Long}
+use Rattle.counts.specs.Lines.{Founded}
 use Rattle.packets.specs.declared.Setting.{Setting}
 use Rattle.packets.specs.declared.Precinct.{Precinct}
 use Rattle.packets.specs.Packets.{head, sgnAt, datAt, flagChecks, headChecks, countChecks, dataChecks, signChecks, valuesBy, afterCounts, countsBy, packet, countsOf}
 use Rattle.packets.proofs.Stretches.{behind-flag, head-inside}
+use Rattle.packets.proofs.Laws.{counts-founded}
 
 -- n is the stream's length, or any other bound of the precinct's place and end
 module _ (s : List ℕ) (c : Setting) (p : Precinct) (slot at n : ℕ) (from : p .at ≤ n) (to : p .end ≤ n) where
@@ -58,20 +61,22 @@ module _ (s : List ℕ) (c : Setting) (p : Precinct) (slot at n : ℕ) (from : p
     counted-sited : (k : Counted) → Sited n (countChecks s c p slot at k ++ dataChecks s c p slot at k)
     counted-sited (Done next need) = (omega arith, λ dat. (omega arith, λ full. (omega arith, λ sgn. tt)))
     counted-sited Cut = (omega arith, λ held. tt)
-    counted-sited High = (omega arith, λ held. tt)
+    counted-sited (High m) = (omega arith, λ held. tt)
+    counted-sited (Long n) = (omega arith, λ held. tt)
 
-    signs-begin : (k : Counted) → first (countChecks s c p slot at k ++ dataChecks s c p slot at k) ≡ Fine → sgnAt s c p slot at ≤ n
-    signs-begin (Done next need) e = omega (arith, held (dataChecks s c p slot at (Done next need)) e .0 .least)
-    signs-begin Cut e = absurd (omega (arith, held (countChecks s c p slot at Cut) e .0 .least))
-    signs-begin High e = absurd (omega (arith, held (countChecks s c p slot at High) e .0 .most))
+    signs-begin : (k : Counted) → Founded (c .br) k → first (countChecks s c p slot at k ++ dataChecks s c p slot at k) ≡ Fine → sgnAt s c p slot at ≤ n
+    signs-begin (Done next need) f e = omega (arith, held (dataChecks s c p slot at (Done next need)) e .0 .most)
+    signs-begin Cut f e = absurd (omega (arith, held (countChecks s c p slot at Cut) e .0 .least))
+    signs-begin (High m) f e = absurd (omega (arith, f, held (countChecks s c p slot at (High m)) e .0 .most))
+    signs-begin (Long n) f e = absurd (omega (arith, f, held (countChecks s c p slot at (Long n)) e .0 .most, pow-pos (c .br + 1)))
 
-    after-sited : (x : Counted × List ℤ) → Inside n (afterCounts s c p slot at x .0)
-    after-sited x =
+    after-sited : (x : Counted × List ℤ) → Founded (c .br) (x .0) → Inside n (afterCounts s c p slot at x .0)
+    after-sited x f =
         let t = countChecks s c p slot at (x .0) ++ dataChecks s c p slot at (x .0) in
-        values-sited (first t) (x .1) (sited n t (counted-sited (x .0))) (signs-begin (x .0))
+        values-sited (first t) (x .1) (sited n t (counted-sited (x .0))) (signs-begin (x .0) f)
 
   counts-sited : (v : Verdict) (cells : List ℤ) → Inside n v → (v ≡ Fine → datAt s c p slot at ≤ p .end) → Inside n (countsBy s c p slot at v cells .0)
-  counts-sited Fine cells i h = after-sited (h refl) (countsOf s c p slot at cells)
+  counts-sited Fine cells i h = after-sited (h refl) (countsOf s c p slot at cells) (counts-founded s c p slot _ _ _ cells)
   counts-sited (Refused r) cells i h = i
 
   -- a packet that begins in its precinct

@@ -1,25 +1,27 @@
 -- The subpackets' stretches and the tables of checks, as the code has them. Assumes nothing.
 use mathlib.Core.Path.{_≡_, refl, sym, ap, subst, _∙_}
-use mathlib.Core.Bool.{Bool, true, false, cond}
+use mathlib.Core.Bool.{Bool, true, false, cond, _||_}
 use mathlib.Core.List.{List, [], _∷_, _++_}
 use Prim.Native.Nat.{ℕ, _+_, _-_, _^_, _≤_, _<_}
 use native.Mathlib.Omega.{arith}
 use borrow.Author.Tests.{lt-ltb}
-use lib.Dec.{eqb}
+use lib.Dec.{eqb, ltb}
 use lib.IntN.{ℤ}
+use lib.Pow.{pow-pos}
 use Rattle.whole.specs.Numbers.{ceilDiv}
 use Rattle.rows.specs.Rows.{check, ample, first, then, broken}
 use Rattle.rows.specs.declared.Verdict.{Verdict}
 use Rattle.rows.specs.declared.Verdict.the-variants.{Fine, Refused}
 use Rattle.rows.specs.declared.Row.the-variants.{Length, Count, Mode}
-use Rattle.rows.specs.declared.Field.the-variants.{Packet, Dr, Significance, Counts, Data, Signs}
+use Rattle.rows.specs.declared.Field.the-variants.{Packet, Dr, Significance, Counts, M, Ones, Data, Signs}
 use Rattle.rows.specs.declared.Check.{Check}
 use Rattle.rows.proofs.Tables.{held, append-fine, first-append}
 use Rattle.bits.specs.Packet.{headerBytes}
 use Rattle.bits.specs.declared.packet.PacketHeader.{PacketHeader}
 use Rattle.layout.specs.Slots.{candidates}
 use Rattle.counts.specs.declared.Line.{Line as Counted}
-use Rattle.counts.specs.declared.Line.the-variants.{Done, Cut, High}
+use Rattle.counts.specs.declared.Line.the-variants.{Done, Cut, High, Long}
+use Rattle.counts.specs.Lines.{Founded}
 use Rattle.values.specs.declared.Next.{Next}
 use Rattle.packets.specs.declared.Setting.{Setting}
 use Rattle.packets.specs.declared.Precinct.{Precinct}
@@ -28,7 +30,7 @@ use Rattle.packets.specs.declared.Signed.{Signed}
 use Rattle.packets.specs.declared.Content.{Content}
 use Rattle.packets.specs.Precincts.{stretch}
 use Rattle.packets.specs.Passes.{marks, packetCounts, packetValues}
-use Rattle.packets.specs.Packets.{signLength, flagChecks, head, raw, Lsig, sigAt, cntAt, datAt, Lsign, past, dataBytes, signBytes, headChecks, countChecks, dataChecks, afterValues, valuesBy, afterCounts, countsBy, countsOf}
+use Rattle.packets.specs.Packets.{signLength, flagChecks, head, raw, Lsig, sigAt, cntAt, datAt, Lsign, past, dataBytes, signBytes, headChecks, countChecks, dataChecks, afterValues, valuesBy, countsBy, countsOf}
 use Rattle.packets.specs.Pieces.{countContent, dataContent, signContent}
 use Rattle.packets.specs.Steps.{Working, dataRow, IsParts, boundFlag, reached, IsSigned, IsContent}
 use Rattle.packets.proofs.LinePasses.{standing-still}
@@ -49,9 +51,20 @@ parts-own {s} {c} {p} {slot} {at} {r} h = subst (λ (n : ℕ). IsParts s c p slo
 -- the header's checks behind the raw flag's
 abbrev pub behind-flag : List ℕ → Setting → Precinct → ℕ → ℕ → List Check
 behind-flag s c p slot at =
-    check Length (sigAt s c p slot at) Significance (p .end - sigAt s c p slot at) (Lsig s c p slot at) ample
-    ∷ check Length (cntAt s c p slot at) Counts (p .end - cntAt s c p slot at) (head s c p slot at .lcnt) ample
+    check Length (sigAt s c p slot at) Significance (Lsig s c p slot at) 0 (p .end - sigAt s c p slot at)
+    ∷ check Length (cntAt s c p slot at) Counts (head s c p slot at .lcnt) 0 (p .end - cntAt s c p slot at)
     ∷ []
+
+-- a check of a value that is too small, or too large, refuses
+too-small : (k : Check) → k .3 < k .4 → first (k ∷ []) ≡ Refused k
+too-small k h = rw (lt-ltb _ _ h)
+
+too-large : (k : Check) → k .5 < k .3 → first (k ∷ []) ≡ Refused k
+too-large k h = by (ltb (k .3) (k .4))
+  where
+    by : (b : Bool) → cond (b || ltb (k .5) (k .3)) (Refused k) Fine ≡ Refused k
+    by true = refl
+    by false = rw (lt-ltb _ _ h)
 
 module _ (s : List ℕ) (c : Setting) (p : Precinct) (slot at : ℕ) where
   -- ---- the places
@@ -93,34 +106,34 @@ module _ (s : List ℕ) (c : Setting) (p : Precinct) (slot at : ℕ) where
         → first (check Mode at Dr (head s c p slot at .dr) (boundFlag c slot raws 0) (boundFlag c slot raws 1) ∷ []) ≡ first (flagChecks s c p slot at raws)
         → sig ≡ p .end - parts .sig → cnt ≡ p .end - parts .cnt
         → v ≡ first (
-        check Length (p .at) Packet (p .end - at) b ample
+        check Length (p .at) Packet b 0 (p .end - at)
         ∷ check Mode at Dr (h .dr) lo hi
-        ∷ check Length (parts .sig) Significance sig (parts .cnt - parts .sig) ample
-        ∷ check Length (parts .cnt) Counts cnt (h .lcnt) ample
+        ∷ check Length (parts .sig) Significance (parts .cnt - parts .sig) 0 sig
+        ∷ check Length (parts .cnt) Counts (h .lcnt) 0 cnt
         ∷ [])
         → v ≡ first (headChecks s c p slot at raws)
     head-table raws {v = v} eb lo hi flag sig cnt f =
         let left = sig ∙ ap (λ (n : ℕ). p .end - n) (is .sig) in
         let rest = cnt ∙ ap (λ (n : ℕ). p .end - n) (is .cnt) in
         let long : parts .cnt - parts .sig ≡ Lsig s c p slot at = omega (arith, is .sig, is .cnt) in
-        let header = check Length (p .at) Packet (p .end - at) (headerBytes (c .widths)) ample in
+        let header = check Length (p .at) Packet (headerBytes (c .widths)) 0 (p .end - at) in
         let own = check Mode at Dr (head s c p slot at .dr) (boundFlag c slot raws 0) (boundFlag c slot raws 1) in
         let joins = first-append (own ∷ []) (behind-flag s c p slot at) ∙ (λ i. then (flag i) (first (behind-flag s c p slot at))) ∙ sym (first-append (flagChecks s c p slot at raws) (behind-flag s c p slot at)) in
         f ∙ (λ i. first (
-        check Length (p .at) Packet (p .end - at) (eb i) ample
+        check Length (p .at) Packet (eb i) 0 (p .end - at)
         ∷ check Mode at Dr (e i .dr) (lo i) (hi i)
-        ∷ check Length (is .sig i) Significance (left i) (long i) ample
-        ∷ check Length (is .cnt i) Counts (rest i) (e i .lcnt) ample
+        ∷ check Length (is .sig i) Significance (long i) 0 (left i)
+        ∷ check Length (is .cnt i) Counts (e i .lcnt) 0 (rest i)
         ∷ []))
         ∙ (λ i. cond (broken header) (Refused header) (joins i))
 
   -- past the header the counts' stretch lies in the precinct
   pub head-inside : (raws : List ℕ) → at ≤ p .end → first (headChecks s c p slot at raws) ≡ Fine → datAt s c p slot at ≤ p .end
   head-inside raws h e =
-      let header = check Length (p .at) Packet (p .end - at) (headerBytes (c .widths)) ample in
+      let header = check Length (p .at) Packet (headerBytes (c .widths)) 0 (p .end - at) in
       let both = append-fine (header ∷ []) (flagChecks s c p slot at raws ++ behind-flag s c p slot at) e in
       let t = held (behind-flag s c p slot at) (append-fine (flagChecks s c p slot at raws) (behind-flag s c p slot at) (both .1) .1) in
-      omega (arith, held (header ∷ []) (both .0) .0 .least, t .0 .least, t .1 .0 .least)
+      omega (arith, held (header ∷ []) (both .0) .0 .most, t .0 .most, t .1 .0 .most)
 
   module _ {parts : Parts} (is : IsParts s c p slot at parts) where
     -- the lengths are the differences of the places
@@ -151,9 +164,9 @@ module _ (s : List ℕ) (c : Setting) (p : Precinct) (slot at : ℕ) where
     done-table e b f =
         let rest = ap (λ (n : ℕ). p .end - n) (is .sgn) in
         f ∙ (λ i. first (
-        check Length (is .dat i) Data (p .end - is .dat i) (long-dat i) ample
+        check Length (is .dat i) Data (long-dat i) 0 (p .end - is .dat i)
         ∷ check Length (is .dat i) Data (long-dat i) (b i) ample
-        ∷ check Length (is .sgn i) Signs (rest i) (long-sgn i) ample
+        ∷ check Length (is .sgn i) Signs (long-sgn i) 0 (rest i)
         ∷ []))
         ∙ (λ i. first (countChecks s c p slot at (sym e i) ++ dataChecks s c p slot at (sym e i)))
 
@@ -161,20 +174,7 @@ module _ (s : List ℕ) (c : Setting) (p : Precinct) (slot at : ℕ) where
         → parts .dat ≤ p .end → v ≡ Fine → parts .past ≤ p .end
     done-inside {next = next} {need = need} e f h g =
         let t = held (dataChecks s c p slot at (Done next need)) ((λ i. first (countChecks s c p slot at (sym e i) ++ dataChecks s c p slot at (sym e i))) ∙ sym f ∙ g) in
-        omega (arith, t .0 .least, t .1 .1 .0 .least, is .dat, is .sgn, is .past)
-
-    pub after-cut : (cells : List ℤ) {line : Counted} {v : Verdict} → line ≡ Cut
-        → v ≡ first (check Length (parts .cnt) Counts (parts .dat - parts .cnt) (parts .dat - parts .cnt + 1) ample ∷ []) → afterCounts s c p slot at (line, cells) ≡ (v, cells)
-    after-cut cells {v = v} e f =
-        let n = head s c p slot at .lcnt in
-        let cut = check Length (cntAt s c p slot at) Counts n (n + 1) ample in
-        let refused : first (cut ∷ []) ≡ Refused cut = rw (lt-ltb n (n + 1) (omega arith)) in
-        let is-cut : v ≡ first (cut ∷ []) = f ∙ (λ i. first (check Length (is .cnt i) Counts (long-cnt i) (long-cnt i + 1) ample ∷ [])) in
-        (λ i. afterCounts s c p slot at (e i, cells)) ∙ (λ i. valuesBy s c p slot at (refused i) cells) ∙ (λ i. (sym (is-cut ∙ refused) i, cells))
-
-    pub after-high : (cells : List ℤ) {line : Counted} {v : Verdict} → line ≡ High → v ≡ first (check Count (parts .cnt) Counts 32 0 31 ∷ [])
-        → afterCounts s c p slot at (line, cells) ≡ (v, cells)
-    after-high cells e f = (λ i. afterCounts s c p slot at (e i, cells)) ∙ (λ i. (sym (f ∙ (λ j. first (check Count (is .cnt j) Counts 32 0 31 ∷ []))) i, cells))
+        omega (arith, t .0 .most, t .1 .1 .0 .most, is .dat, is .sgn, is .past)
 
     -- ---- the values
 
@@ -220,21 +220,37 @@ module _ (s : List ℕ) (c : Setting) (p : Precinct) (slot at : ℕ) where
       }
 
   -- and of counts that are refused: none
-  module _ {line : Counted} {cells cells′ : List ℤ} {r : Content} (none : (r .counts ≡ 0) × (r .«data» ≡ 0) × (r .signs ≡ 0))
-      (left : afterCounts s c p slot at (line, cells) ≡ (r .verdict, cells′)) where
-    unread : {k : Check} → first (countChecks s c p slot at line ++ dataChecks s c p slot at line) ≡ Refused k → countContent line ≡ 0 → dataContent line ≡ 0
-        → IsContent s c p slot at (line, cells) r cells′
-    unread e k n = record { left = left; counts = none .0 ∙ sym k; «data» = none .1 ∙ sym n; signs = none .2 ∙ rw e refl }
+  module _ {parts : Parts} (is : IsParts s c p slot at parts) {line : Counted} {cells : List ℤ} {r : Content} (none : (r .counts ≡ 0) × (r .«data» ≡ 0) × (r .signs ≡ 0)) where
+    unread : {x : Counted} {k : Check} → line ≡ x → countContent x ≡ 0 → dataContent x ≡ 0 → first (countChecks s c p slot at x ++ dataChecks s c p slot at x) ≡ Refused k
+        → r .verdict ≡ Refused k → IsContent s c p slot at (line, cells) r cells
+    unread e n d f g =
+        let refused = (λ i. first (countChecks s c p slot at (e i) ++ dataChecks s c p slot at (e i))) ∙ f in
+        record {
+          left = (λ i. valuesBy s c p slot at (refused i) cells) ∙ (λ i. (sym g i, cells));
+          counts = none .0 ∙ sym n ∙ ap countContent (sym e);
+          «data» = none .1 ∙ sym d ∙ ap dataContent (sym e);
+          signs = none .2 ∙ rw refused refl;
+        }
 
-    pub cut-content : line ≡ Cut → IsContent s c p slot at (line, cells) r cells′
-    cut-content e =
+    pub cut-content : line ≡ Cut → r .verdict ≡ first (check Length (parts .cnt) Counts (parts .dat - parts .cnt) (parts .dat - parts .cnt + 1) ample ∷ [])
+        → IsContent s c p slot at (line, cells) r cells
+    cut-content e f =
         let n = head s c p slot at .lcnt in
-        let cut = check Length (cntAt s c p slot at) Counts n (n + 1) ample in
-        let refused : first (cut ∷ []) ≡ Refused cut = rw (lt-ltb n (n + 1) (omega arith)) in
-        unread ((λ i. first (countChecks s c p slot at (e i) ++ dataChecks s c p slot at (e i))) ∙ refused) (ap countContent e) (ap dataContent e)
+        let refused = too-small (check Length (cntAt s c p slot at) Counts n (n + 1) ample) (omega arith) in
+        unread e refl refl refused (f ∙ (λ i. first (check Length (is .cnt i) Counts (long-cnt is i) (long-cnt is i + 1) ample ∷ [])) ∙ refused)
 
-    pub high-content : line ≡ High → IsContent s c p slot at (line, cells) r cells′
-    high-content e = unread (λ i. first (countChecks s c p slot at (e i) ++ dataChecks s c p slot at (e i))) (ap countContent e) (ap dataContent e)
+    pub high-content : {m : ℕ} → line ≡ High m → Founded (c .br) line → r .verdict ≡ first (check Count (parts .cnt) M m 0 31 ∷ [])
+        → IsContent s c p slot at (line, cells) r cells
+    high-content {m} e h f =
+        let refused = too-large (check Count (cntAt s c p slot at) M m 0 31) (subst (Founded (c .br)) e h) in
+        unread e refl refl refused (f ∙ (λ i. first (check Count (is .cnt i) M m 0 31 ∷ [])) ∙ refused)
+
+    pub long-content : {n : ℕ} → line ≡ Long n → Founded (c .br) line → r .verdict ≡ first (check Count (parts .cnt) Ones n 0 (2 ^ (c .br + 1) - 1) ∷ [])
+        → IsContent s c p slot at (line, cells) r cells
+    long-content {n} e h f =
+        let most : 2 ^ (c .br + 1) ≤ n = subst (Founded (c .br)) e h in
+        let refused = too-large (check Count (cntAt s c p slot at) Ones n 0 (2 ^ (c .br + 1) - 1)) (omega (arith, most, pow-pos (c .br + 1))) in
+        unread e refl refl refused (f ∙ (λ i. first (check Count (is .cnt i) Ones n 0 (2 ^ (c .br + 1) - 1) ∷ [])) ∙ refused)
 
   pub counts-stand : (cells : List ℤ) {v : Verdict} {k : Check} → v ≡ Refused k → countsBy s c p slot at v cells ≡ (v, cells)
   counts-stand cells e = rw e

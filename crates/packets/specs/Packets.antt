@@ -1,6 +1,6 @@
 -- C.3 and C.4: a packet, its header and its subpackets in their order. Each subpacket is judged whole before the next: does it run past the precinct,
 -- then its content. `slot` says which of its precinct's packets it is, `at` where its header stands.
-use Prim.Native.Nat.{ℕ, zero, suc, _+_, _-_}
+use Prim.Native.Nat.{ℕ, zero, suc, _+_, _-_, _^_}
 use mathlib.Core.Bool.{Bool, false, cond, _||_}
 use mathlib.Core.List.{List, [], _∷_, _++_}
 use lib.Dec.{eqb}
@@ -12,12 +12,12 @@ use Rattle.rows.specs.declared.Check.{Check}
 use Rattle.rows.specs.declared.Verdict.{Verdict}
 use Rattle.rows.specs.declared.Verdict.the-variants.{Fine, Refused}
 use Rattle.rows.specs.declared.Row.the-variants.{Length, Count, Mode}
-use Rattle.rows.specs.declared.Field.the-variants.{Packet, Dr, Significance, Counts, Data, Signs}
+use Rattle.rows.specs.declared.Field.the-variants.{Packet, Dr, Significance, Counts, M, Ones, Data, Signs}
 use Rattle.bits.specs.Packet.{headerAt, headerBytes}
 use Rattle.bits.specs.declared.packet.PacketHeader.{PacketHeader}
 use Rattle.layout.specs.Slots.{candidates, sharing}
 use Rattle.counts.specs.declared.Line.{Line as Counted}
-use Rattle.counts.specs.declared.Line.the-variants.{Done, Cut, High}
+use Rattle.counts.specs.declared.Line.the-variants.{Done, Cut, High, Long}
 use Rattle.values.specs.declared.Next.{Next}
 use Rattle.packets.specs.declared.Setting.{Setting}
 use Rattle.packets.specs.declared.Precinct.{Precinct}
@@ -87,27 +87,29 @@ module _ (s : List ℕ) (c : Setting) (p : Precinct) (slot at : ℕ) where
   -- a sign length with Fs = 0 is withdrawn (document 02, C-11)
   abbrev pub headChecks : List ℕ → List Check
   headChecks raws =
-      check Length (p .at) Packet (p .end - at) (headerBytes (c .widths)) ample
+      check Length (p .at) Packet (headerBytes (c .widths)) 0 (p .end - at)
       ∷ (flagChecks raws
-      ++ (check Length sigAt Significance (p .end - sigAt) Lsig ample
-      ∷ check Length cntAt Counts (p .end - cntAt) (head .lcnt) ample
+      ++ (check Length sigAt Significance Lsig 0 (p .end - sigAt)
+      ∷ check Length cntAt Counts (head .lcnt) 0 (p .end - cntAt)
       ∷ []))
 
-  -- the counts: a code that is cut wants more bytes than are declared
+  -- the counts: a code that is cut wants more bytes than are declared. M is 0 to 31, and a code has fewer than 2^(Br+1) 1-bits
   abbrev pub countChecks : Counted → List Check
   countChecks (Done next need) = []
   countChecks Cut = check Length cntAt Counts (head .lcnt) (head .lcnt + 1) ample ∷ []
-  countChecks High = check Count cntAt Counts 32 0 31 ∷ []
+  countChecks (High m) = check Count cntAt M m 0 31 ∷ []
+  countChecks (Long n) = check Count cntAt Ones n 0 (2 ^ (c .br + 1) - 1) ∷ []
 
   -- the data, of `need` nibbles, and the signs' length
   abbrev pub dataChecks : Counted → List Check
   dataChecks (Done next need) =
-      check Length datAt Data (p .end - datAt) (head .ldat) ample
+      check Length datAt Data (head .ldat) 0 (p .end - datAt)
       ∷ check Length datAt Data (head .ldat) (ceilDiv need 2) ample
-      ∷ check Length sgnAt Signs (p .end - sgnAt) Lsign ample
+      ∷ check Length sgnAt Signs Lsign 0 (p .end - sgnAt)
       ∷ []
   dataChecks Cut = []
-  dataChecks High = []
+  dataChecks (High m) = []
+  dataChecks (Long n) = []
 
   -- the signs, of `used` bits
   abbrev pub signChecks : ℕ → List Check

@@ -13,7 +13,7 @@ use Rattle.counts.specs.declared.group.Mode.{Mode}
 use Rattle.counts.specs.declared.group.Mode.the-variants.{Raw, NoPrediction, Vertical}
 use Rattle.counts.specs.declared.Place.{Place}
 use Rattle.counts.specs.declared.Line.{Line as Counted}
-use Rattle.counts.specs.declared.Line.the-variants.{Done, Cut, High}
+use Rattle.counts.specs.declared.Line.the-variants.{Done, Cut, High, Long}
 use Rattle.counts.specs.Lines.{lineCounts}
 use Rattle.values.specs.declared.Line.{Line as Valued}
 use Rattle.values.specs.declared.Coding.{Coding as Values}
@@ -67,7 +67,8 @@ Counting = ℕ × ℕ × List ℤ
 abbrev pub counted : ℕ → Counted × List ℤ → Turn Counting (Counted × List ℤ)
 counted need (Done next more, cells) = go (next, need + more, cells)
 counted need (Cut, cells) = stop (Cut, cells)
-counted need (High, cells) = stop (High, cells)
+counted need (High m, cells) = stop (High m, cells)
+counted need (Long n, cells) = stop (Long n, cells)
 
 -- the stretch of the counts and that of the significance flags
 module _ (s : List ℕ) (c : Setting) (p : Precinct) (slot : ℕ) (cnt sig : List ℕ) (raw : Bool) where

@@ -7,7 +7,7 @@ use Rattle.whole.specs.Numbers.{ceilDiv}
 use Rattle.pieces.specs.Pieces.{Piece, Packets, Significance, Counts, Data, Signs, Filler}
 use Rattle.bits.specs.Packet.{headerBytes}
 use Rattle.counts.specs.declared.Line.{Line as Counted}
-use Rattle.counts.specs.declared.Line.the-variants.{Done, Cut, High}
+use Rattle.counts.specs.declared.Line.the-variants.{Done, Cut, High, Long}
 use Rattle.values.specs.declared.Next.{Next}
 use Rattle.packets.specs.declared.Setting.{Setting}
 use Rattle.packets.specs.declared.Precinct.{Precinct}
@@ -18,13 +18,15 @@ use Rattle.packets.specs.Table.{valuesAfter}
 abbrev pub countContent : Counted → ℕ
 countContent (Done next need) = ceilDiv next 8
 countContent Cut = 0
-countContent High = 0
+countContent (High m) = 0
+countContent (Long n) = 0
 
 -- the nibbles of the data, Annex C's sign nibbles among them where Fs = 0. `data-content` shows that they are those that the data's decoder reads
 abbrev pub dataContent : Counted → ℕ
 dataContent (Done next need) = ceilDiv need 2
 dataContent Cut = 0
-dataContent High = 0
+dataContent (High m) = 0
+dataContent (Long n) = 0
 
 -- the sign bits, of which there are none where Fs = 0
 abbrev pub signContent : Next → ℕ

@@ -123,9 +123,9 @@ partBytes r counts nibbles signs =
 -- `dataChecks`
 abbrev pub dataRow : Precinct → Parts → ℕ → List Check
 dataRow p r content =
-    check Length (r .dat) Data (p .end - r .dat) (r .sgn - r .dat) ample
+    check Length (r .dat) Data (r .sgn - r .dat) 0 (p .end - r .dat)
     ∷ check Length (r .dat) Data (r .sgn - r .dat) content ample
-    ∷ check Length (r .sgn) Signs (p .end - r .sgn) (r .past - r .sgn) ample
+    ∷ check Length (r .sgn) Signs (r .past - r .sgn) 0 (p .end - r .sgn)
     ∷ []
 
 -- the first slot that shares a band with an earlier one, which is the third before it

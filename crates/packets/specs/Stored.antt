@@ -7,7 +7,7 @@ use lib.IntN.{ℤ}
 use Rattle.bits.specs.Groups.{Ng}
 use Rattle.counts.specs.Lines.{unpack}
 use Rattle.counts.specs.declared.group.Group.{Group}
-use Rattle.counts.specs.declared.group.Group.the-variants.{Count, Cut, High}
+use Rattle.counts.specs.declared.group.Group.the-variants.{Count, Cut, High, Long}
 use Rattle.values.specs.declared.Next.{Next}
 use Rattle.values.specs.Group.{index}
 use Rattle.values.specs.Line.{behind}
@@ -22,7 +22,8 @@ use Rattle.packets.specs.Counted.{codingIn, beforeGroup}
 abbrev pub groupM : Group → ℕ
 groupM (Count m next) = m
 groupM Cut = 0
-groupM High = 0
+groupM (High m) = 0
+groupM (Long n) = 0
 
 module _ (s : List ℕ) (c : Setting) (p : Precinct) (slot at : ℕ) (cells : List ℤ) where
   -- Table C.8: M[p,λ,b,g] of group g of line j, as it is read in its turn

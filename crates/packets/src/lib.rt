@@ -15,13 +15,17 @@ use rows::Row;
 use rows::Verdict;
 ghost use mathlib.Core.Path.{_≡_};
 ghost use mathlib.Core.Bool.{true};
-ghost use Prim.Native.Nat.{_-_, _≤_, _<_};
+ghost use mathlib.Core.List.{[], _∷_};
+ghost use Prim.Native.Nat.{_+_, _-_, _^_, _≤_, _<_};
 ghost use lib.ListN.{length};
 ghost use Rattle.whole.specs.Numbers.{ceilDiv};
-ghost use Rattle.rows.specs.Rows.{first};
+ghost use Rattle.rows.specs.Rows.{check, first};
+ghost use Rattle.rows.specs.declared.Row.the-variants.{Count};
+ghost use Rattle.rows.specs.declared.Field.the-variants.{Ones};
 ghost use Rattle.rows.specs.declared.Verdict.the-variants.{Fine};
 ghost use Rattle.bits.specs.Packet.{IsHeader};
 ghost use Rattle.layout.specs.Slots.{slots, candidates};
+ghost use Rattle.counts.specs.Lines.{Founded};
 ghost use Rattle.pieces.specs.Pieces.{bytesBy};
 ghost use Rattle.packets.specs.Packets.{anyLine, countsOf};
 ghost use Rattle.packets.specs.Ready.{Settled, Standing};
@@ -184,17 +188,10 @@ fn open(s: &[u8], c: Setting, p: Precinct, slot: usize, at: usize, raws: [usize;
     let left = less(end, sig);
     let rest = less(end, cnt);
     let v = rows::first([
-        Check(Row::Length, p.at, Field::Packet, end - at, bytes, AMPLE),
+        Check(Row::Length, p.at, Field::Packet, bytes, 0, end - at),
         Check(Row::Mode, at, Field::Dr, h.dr, least, most),
-        Check(
-            Row::Length,
-            sig,
-            Field::Significance,
-            left,
-            cnt - sig,
-            AMPLE,
-        ),
-        Check(Row::Length, cnt, Field::Counts, rest, h.lcnt, AMPLE),
+        Check(Row::Length, sig, Field::Significance, cnt - sig, 0, left),
+        Check(Row::Length, cnt, Field::Counts, h.lcnt, 0, rest),
         HOLDS,
         HOLDS,
         HOLDS,
@@ -257,15 +254,24 @@ fn data_row(p: Precinct, parts: Parts, bytes: usize) -> Verdict
     let left = less(p.end, sgn);
     let signs = parts.past - sgn;
     rows::first([
-        Check(Row::Length, dat, Field::Data, p.end - dat, size, AMPLE),
+        Check(Row::Length, dat, Field::Data, size, 0, p.end - dat),
         Check(Row::Length, dat, Field::Data, size, bytes, AMPLE),
-        Check(Row::Length, sgn, Field::Signs, left, signs, AMPLE),
+        Check(Row::Length, sgn, Field::Signs, signs, 0, left),
         HOLDS,
         HOLDS,
         HOLDS,
         HOLDS,
         HOLDS,
     ])
+}
+
+// So many 1-bits stand where a code of a count stood: one of them is too many.
+fn long_row(cnt: usize, n: usize, br: usize) -> Verdict
+    requires { ⌜ br ≤ 5 ⌝ }
+    ensures { λ r. ⌜ r ≡ first (check Count cnt Ones n 0 (2 ^ (br + 1) - 1) ∷ []) ⌝ }
+{
+    let all: usize = 1 << (br + 1);
+    rows::one(Check(Row::Count, cnt, Field::Ones, n, 0, all - 1))
 }
 
 // Counts that are refused: no content.
@@ -290,7 +296,7 @@ fn after_counts(
     slot: usize,
     parts: Parts,
 ) -> Content
-    requires { ⌜ Working (now s) c p slot (length (now cells)) × IsParts (now s) c p slot (parts .at) parts × (parts .dat ≤ p .end) ⌝ }
+    requires { ⌜ Working (now s) c p slot (length (now cells)) × IsParts (now s) c p slot (parts .at) parts × (parts .dat ≤ p .end) × Founded (c .br) line ⌝ }
     ensures { λ r. ⌜ IsContent (now (s .entry)) c p slot (parts .at) (line, now (cells .entry)) r (now (cells .exit)) ⌝ }
 {
     let cnt = parts.cnt;
@@ -312,7 +318,8 @@ fn after_counts(
             let size = dat - cnt;
             none(rows::one(Check(Row::Length, cnt, Field::Counts, size, size + 1, AMPLE)))
         }
-        counts::Line::High => none(rows::one(Check(Row::Count, cnt, Field::Counts, 32, 0, 31))),
+        counts::Line::High(m) => none(rows::one(Check(Row::Count, cnt, Field::M, m, 0, 31))),
+        counts::Line::Long(n) => none(long_row(cnt, n, c.br)),
     }
 }
 

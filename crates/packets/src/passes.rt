@@ -168,8 +168,11 @@ pub(crate) fn packet_counts(
             counts::Line::Cut => {
                 return counts::Line::Cut;
             }
-            counts::Line::High => {
-                return counts::Line::High;
+            counts::Line::High(m) => {
+                return counts::Line::High(m);
+            }
+            counts::Line::Long(ones) => {
+                return counts::Line::Long(ones);
             }
         }
         z += marks_of(s, c, p, l, raw);

@@ -40,9 +40,9 @@ bw-range bw true b l m = omega arith
 bw-range bw false true l m = omega arith
 bw-range bw false false l m = omega arith
 
-three-of : (nc : ℕ) → Dec (nc < 3) → 1 ≤ mostCpih nc → 3 ≤ nc
-three-of nc (yes l) h = absurd (omega (arith, rw (lt-ltb nc 3 l) at h))
-three-of nc (no l) h = omega arith
+three-of : (nc cpih : ℕ) → Dec (nc < 3) → 1 ≤ mostCpih nc cpih → 3 ≤ nc
+three-of nc cpih (yes l) h = absurd (omega (arith, rw (lt-ltb nc 3 l) at h))
+three-of nc cpih (no l) h = omega arith
 
 pub built : (s : List ℕ) (n p : ℕ) → first (fieldChecks n p (pictureAt s p)) ≡ Fine → Built (pictureAt s p)
 built s n p e =
@@ -63,8 +63,8 @@ built s n p e =
       bw = bw-range (h .bw) (ltb (h .bw) 18) (eqb (h .bw) 18) (b .1 .1 .1 .1 .0 .least) (b .1 .1 .1 .1 .0 .most);
       fq = omega (arith, b .1 .1 .1 .1 .1 .1 .0 .least, b .1 .1 .1 .1 .1 .1 .0 .most);
       br = omega (arith, b .1 .1 .1 .1 .1 .1 .1 .0 .least, b .1 .1 .1 .1 .1 .1 .1 .0 .most);
-      cpih = m .1 .1 .1 .1 .0 .most;
-      colours = λ one. three-of (h .nc) (decLt (h .nc) 3) (omega (arith, one, m .1 .1 .0 .most));
+      cpih = m .1 .1 .1 .0 .most;
+      colours = λ one. three-of (h .nc) (h .cpih) (decLt (h .nc) 3) (omega (arith, one, m .1 .1 .0 .most));
       nlx = (l .1 .0 .least, l .1 .0 .most);
       nly = (l .1 .1 .0 .most, l .1 .1 .1 .1 .0 .most);
       lh = field-lt s _ 1;

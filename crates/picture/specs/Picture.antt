@@ -1,6 +1,6 @@
 -- A.4.4: the picture header. Places count from p, its marker's place.
 use Prim.Native.Nat.{ℕ, _+_, _*_, _≤_, _<_, _^_}
-use mathlib.Core.Bool.{_||_, cond}
+use mathlib.Core.Bool.{_||_, _&&_, cond}
 use mathlib.Core.List.{List, [], _∷_, _++_}
 use mathlib.Core.Path.{_≡_}
 use lib.Dec.{eqb, leb, ltb}
@@ -115,17 +115,17 @@ precisionChecks p h =
     ∷ check Value (p + 24) Br (h .br) (brFor (h .bw)) (brFor (h .bw))
     ∷ []
 
--- F.2: Cpih is 0 with fewer than three components, and below 2 with fewer than four. Table A.9 goes to 3
-abbrev pub mostCpih : ℕ → ℕ
-mostCpih nc = cond (ltb nc 3) 0 (cond (ltb nc 4) 1 3)
+-- Table A.9: Cpih is 0, 1 or 3, and 2 and 4 to 15 are reserved. F.2: it is 0 with fewer than three components, and below 2 with fewer than four. A single range
+-- has no gap: beside a 3 that is allowed it goes to 3, beside any other value to 1, so that nothing reserved is ever named as expected
+abbrev pub mostCpih : ℕ → ℕ → ℕ
+mostCpih nc cpih = cond (ltb nc 3) 0 (cond (ltb 3 nc && eqb cpih 3) 3 1)
 
--- Table A.7, Fslc to Cpih, with Tables A.14, A.13 and A.9, where 2 and 4 to 15 are reserved: beside 2 the least is 3. Document 01: Star-Tetrix (3) is not built
+-- Table A.7, Fslc to Cpih, with Tables A.14, A.13 and A.9. Document 01: Star-Tetrix (3) is not built
 abbrev pub modeChecks : ℕ → Picture → List Check
 modeChecks p h =
     check Value (p + 25) Fslc (h .fslc) 0 0
     ∷ check Value (p + 25) Ppoc (h .ppoc) 0 0
-    ∷ check Value (p + 25) Cpih (h .cpih) 0 (mostCpih (h .nc))
-    ∷ check Value (p + 25) Cpih (h .cpih) (cond (eqb (h .cpih) 2) 3 0) 3
+    ∷ check Value (p + 25) Cpih (h .cpih) 0 (mostCpih (h .nc) (h .cpih))
     ∷ check Lacking (p + 25) Cpih (h .cpih) 0 1
     ∷ []
 

@@ -153,14 +153,14 @@ fn mode_row(p: usize, h: Picture) -> Verdict
     ensures { λ r. ⌜ r ≡ first (modeChecks p h) ⌝ }
 {
     let cpih = h.cpih;
-    let most = rows::choose(h.nc < 3, 0, rows::choose(h.nc < 4, 1, 3));
-    let least = rows::choose(cpih == 2, 3, 0);
+    let some = rows::choose((3 < h.nc) & (cpih == 3), 3, 1);
+    let most = rows::choose(h.nc < 3, 0, some);
     rows::first([
         Check(Row::Value, p + 25, Field::Fslc, h.fslc, 0, 0),
         Check(Row::Value, p + 25, Field::Ppoc, h.ppoc, 0, 0),
         Check(Row::Value, p + 25, Field::Cpih, cpih, 0, most),
-        Check(Row::Value, p + 25, Field::Cpih, cpih, least, 3),
         Check(Row::Lacking, p + 25, Field::Cpih, cpih, 0, 1),
+        HOLDS,
         HOLDS,
         HOLDS,
         HOLDS,

@@ -4,7 +4,7 @@ use mathlib.Core.Bool.{Bool}
 use mathlib.Core.List.{List}
 use mathlib.Core.Path.{_≡_, sym, _∙_}
 use lib.IntN.{ℤ}
-use Rattle.pitchladle.specs.Exported.{Handed, HandedDamaged, HandedBy}
+use Rattle.pitchladle.specs.Exported.{Handed, HandedDamaged, HandedBy, Explained, HandedCoarsest}
 
 pub handed-once : {s a c₁ c₂ a₁ a₂ : List ℕ} {w w₁ w₂ : List ℤ} → Handed s a w c₁ a₁ w₁ → Handed s a w c₂ a₂ w₂
     → (c₁ ≡ c₂) × (a₁ ≡ a₂) × (w₁ ≡ w₂)
@@ -29,3 +29,10 @@ handed-places-once x y =
       p .marks ∙ sym (q .marks),
       x .reads .distances ∙ sym (y .reads .distances),
     )
+
+pub explained-once : {s c₁ c₂ n₁ n₂ : List ℕ} {mode a m d : ℕ} {w w₁ w₂ : List ℤ} → Explained s mode a w m d w₁ c₁ n₁ → Explained s mode a w m d w₂ c₂ n₂
+    → (c₁ ≡ c₂) × (n₁ ≡ n₂) × (w₁ ≡ w₂)
+explained-once x y = (x .cells-are ∙ sym (y .cells-are), x .name-is ∙ sym (y .name-is), x .work ∙ sym (y .work))
+
+pub coarsest-once : {s c₁ c₂ : List ℕ} {a : ℕ} {w w₁ w₂ : List ℤ} → HandedCoarsest s a w w₁ c₁ → HandedCoarsest s a w w₂ c₂ → (c₁ ≡ c₂) × (w₁ ≡ w₂)
+coarsest-once x y = (x .cells-are ∙ sym (y .cells-are), x .work ∙ sym (y .work))

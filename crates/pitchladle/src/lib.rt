@@ -2,7 +2,9 @@
 // buffers hold.
 use header::header::Header;
 use layout::lines::samples_before;
+use reader::judging::judge;
 use reader::page::Page;
+use reasons::Why;
 use rows::Verdict;
 use shapes::shape_of;
 ghost use mathlib.Core.Path.{_≡_};
@@ -10,7 +12,7 @@ ghost use mathlib.Core.Bool.{cond};
 ghost use Rattle.rows.specs.declared.Verdict.the-variants.{Fine};
 ghost use Rattle.layout.specs.Built.{Built};
 ghost use Rattle.shapes.specs.Shapes.{shapeOf};
-ghost use Rattle.pitchladle.specs.Exported.{cellsOf, Handed, HandedDamaged, HandedPlaces, HandedDamagedPlaces, neededBy, needed};
+ghost use Rattle.pitchladle.specs.Exported.{cellsOf, Handed, HandedDamaged, HandedPlaces, HandedDamagedPlaces, neededBy, needed, IsReason, Explained, coarsestCells, HandedCoarsest};
 
 // 1 for yes and 0 for no.
 fn flag(b: bool) -> u64
@@ -120,6 +122,113 @@ pub extern "C" fn pitchladle_read_damaged_places(
 {
     let page = reader::read_damaged_places(stream, samples, work, marks, distances);
     *cells = cells_of(page);
+}
+
+// Why a page is refused, as it crosses: number and place, the value found, least and most expected, and whether these three are codes, which are written in
+// hexadecimal; and the field's name, with zeros behind it. Of a page that is read all is 0 but the place.
+struct Reason {
+    cells: [u64; 6],
+    name: [u8; 40],
+}
+
+fn reason_of(v: Verdict, end: usize) -> Reason
+    ensures { λ r. ⌜ IsReason v end r ⌝ }
+{
+    match v {
+        Verdict::Fine => Reason {
+            cells: [0, end as u64, 0, 0, 0, 0],
+            name: [0; 40],
+        },
+        Verdict::Refused(c) => {
+            let row = c.0;
+            let field = c.2;
+            let name = fields::name(field);
+            let letters = name.letters;
+            Reason {
+                cells: [
+                    rows::number(row) as u64,
+                    c.1 as u64,
+                    c.3 as u64,
+                    c.4 as u64,
+                    c.5 as u64,
+                    flag(fields::are_codes(row, field)),
+                ],
+                name: letters,
+            }
+        }
+    }
+}
+
+// Why a page is refused by the call that the two lowest bits of `mode` tell: the lowest for one that marks what is lost, the next for one that gives each sample
+// a distance. Samples, marks and distances are lent by their number.
+#[no_mangle]
+pub extern "C" fn pitchladle_why(
+    stream: &[u8],
+    mode: u64,
+    samples: usize,
+    work: &mut [i64],
+    marks: usize,
+    distances: usize,
+    cells: &mut [u64; 6],
+    name: &mut [u8; 40],
+)
+    ensures { λ _. ⌜ Explained (now (stream .entry)) mode samples (now (work .entry)) marks distances (now (work .exit)) (now (cells .exit)) (now (name .exit)) ⌝ }
+{
+    let r = judge(
+        mode % 2 == 1,
+        mode / 2 % 2 == 1,
+        stream,
+        samples,
+        work,
+        marks,
+        distances,
+    );
+    let v = r.verdict;
+    let h = r.header;
+    let p = h.picture;
+    let reason = reason_of(v, p.lcod);
+    let told = reason.cells;
+    let letters = reason.name;
+    *cells = told;
+    *name = letters;
+}
+
+// Where a page is coarsest, as it crosses: the number of components, and band, precinct and truncation of each of four.
+fn coarsest_of(w: Why) -> [u64; 13]
+    ensures { λ r. ⌜ r ≡ coarsestCells w ⌝ }
+{
+    let b = w.band;
+    let p = w.precinct;
+    let t = w.truncation;
+    [
+        w.components as u64,
+        b[0] as u64,
+        p[0] as u64,
+        t[0] as u64,
+        b[1] as u64,
+        p[1] as u64,
+        t[1] as u64,
+        b[2] as u64,
+        p[2] as u64,
+        t[2] as u64,
+        b[3] as u64,
+        p[3] as u64,
+        t[3] as u64,
+    ]
+}
+
+// Where a page that `pitchladle_read` reads is coarsest, component by component; of a refused one all is 0.
+#[no_mangle]
+pub extern "C" fn pitchladle_coarsest(
+    stream: &[u8],
+    samples: usize,
+    work: &mut [i64],
+    cells: &mut [u64; 13],
+)
+    ensures { λ _. ⌜ HandedCoarsest (now (stream .entry)) samples (now (work .entry)) (now (work .exit)) (now (cells .exit)) ⌝ }
+{
+    let w = reasons::explain(stream, samples, work);
+    *cells = coarsest_of(w);
 }
 
 // How many samples stand behind an accepted header.

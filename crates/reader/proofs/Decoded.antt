@@ -41,7 +41,7 @@ use Rattle.reader.specs.Decoding.{handed, distancesFrom, begun}
 use Rattle.reader.specs.Page.{pageRead, pageBy}
 use Rattle.reader.specs.Modes.{decodedBy, topsIn, piecesIn, lostMarks}
 use Rattle.reader.specs.Places.{distancePlane}
-use Rattle.reader.specs.Steps.{Opened, Decoded, IsSetting, Markable, PlaceableBy, filledBy, Shows, marksFrom, MarkedIn, PlacedIn, DecodesBy}
+use Rattle.reader.specs.Steps.{Opened, Decoded, IsSetting, Sliced, Markable, PlaceableBy, filledBy, Shows, marksFrom, MarkedIn, PlacedIn, DecodesBy}
 use Rattle.reader.proofs.Lost.{marks-told}
 use Rattle.reader.proofs.Openings.{fq-few, settled}
 
@@ -111,36 +111,37 @@ module _ {s : List ℕ} {h : Header} (o : Opened s h) where
           few = decoded-few;
         }
 
+-- ---- what `decode_slices` leaves
+
+pub sliced : (s : List ℕ) (h : Header) (damaged : Bool) {c : Setting} {w w′ : List ℤ} {n : ℕ} {r : Reading} → c ≡ settingOf h → w ≡ replicate n (pos 0) → n ≡ 2 * N h
+    → Streamed (streamBy s c damaged (h .slice, replicate 40 0, w)) (streamPiecesBy s c damaged (h .slice, replicate 40 0, w)) r w′ → Sliced damaged s h r w′
+unfolding decodedBy
+sliced s h damaged {w = w} {r = r} e f g st =
+    let begins : (h .slice, replicate 40 0, w) ≡ begun h = λ i. (h .slice, replicate 40 0, (f ∙ ap (λ (m : ℕ). replicate m (pos 0)) g) i) in
+    record {
+      is = (λ i. streamBy s (sym e i) damaged (sym begins i)) ∙ st .is;
+      bytes = st .bytes ∙ (λ i. bytesBy (r .verdict) (bytesOf (streamPiecesBy s (e i) damaged (begins i))));
+    }
+
 -- ---- what `decode` leaves
 
-module _ (s : List ℕ) (h : Header) (damaged : Bool) where
-  pub left-is : {c : Setting} {w : List ℤ} {n : ℕ} {left : Left} → c ≡ settingOf h → w ≡ replicate n (pos 0) → n ≡ 2 * N h
-      → streamBy s c damaged (h .slice, replicate 40 0, w) ≡ left → decodedBy s h damaged ≡ left
-  unfolding decodedBy
-  left-is e f g st =
-      let zeros = f ∙ ap (λ (m : ℕ). replicate m (pos 0)) g in
-      (λ i. streamBy s (sym e i) damaged (h .slice, replicate 40 0, sym zeros i)) ∙ st
-
 -- where the bytes of the page went: those of its header and of its slices
-module _ {s : List ℕ} {h : Header} (o : Opened s h) (damaged : Bool) {c : Setting} {w cells : List ℤ} {n : ℕ} {r : Reading} (e : c ≡ settingOf h) (f : w ≡ replicate n (pos 0)) (g : n ≡ 2 * N h)
-    (st : Streamed (streamBy s c damaged (h .slice, replicate 40 0, w)) (streamPiecesBy s c damaged (h .slice, replicate 40 0, w)) r cells) where
+module _ {s : List ℕ} {h : Header} (o : Opened s h) (damaged : Bool) {cells : List ℤ} {r : Reading} (st : Sliced damaged s h r cells) where
   -- they are few
   pub bytes-few : all (bytesOf ((Markers, h .slice) ∷ [])) + all (r .bytes) < 2 ^ 64
+  unfolding decodedBy
   bytes-few =
-      omega (arith, piece-once Markers (h .slice), o .accepted .slice, o .accepted .short, bytes-in-stream s c damaged (h .slice, replicate 40 0, w) st (o .accepted .short))
+      omega (arith, piece-once Markers (h .slice), o .accepted .slice, o .accepted .short, bytes-in-stream s (settingOf h) damaged (begun h) st (o .accepted .short))
 
   pub bytes-are : {b : Bytes} → b ≡ plus (bytesOf ((Markers, h .slice) ∷ [])) (r .bytes) → bytesBy (r .verdict) b ≡ bytesBy (r .verdict) (bytesOf (piecesIn s h damaged))
   unfolding piecesIn
   bytes-are {b} k = by (r .verdict) (st .bytes)
     where
-      begins : (h .slice, replicate 40 0, w) ≡ begun h
-      begins = λ i. (h .slice, replicate 40 0, (f ∙ ap (λ (m : ℕ). replicate m (pos 0)) g) i)
-
-      by : (v : Verdict) → r .bytes ≡ bytesBy v (bytesOf (streamPiecesBy s c damaged (h .slice, replicate 40 0, w)))
+      by : (v : Verdict) → r .bytes ≡ bytesBy v (bytesOf (streamPiecesBy s (settingOf h) damaged (begun h)))
           → bytesBy v b ≡ bytesBy v (bytesOf (headerPieces s ++ streamPiecesBy s (settingOf h) damaged (begun h)))
       by Fine q =
           k
-          ∙ (λ i. plus (sym (o .bytes) i) ((q ∙ (λ j. bytesOf (streamPiecesBy s (e j) damaged (begins j)))) i))
+          ∙ (λ i. plus (sym (o .bytes) i) (q i))
           ∙ sym (bytes-append (headerPieces s) (streamPiecesBy s (settingOf h) damaged (begun h)))
       by (Refused x) q = refl
 
@@ -148,7 +149,7 @@ module _ {s : List ℕ} {h : Header} (o : Opened s h) (damaged : Bool) {v : Verd
   pub shown-of : (a : ℕ) → a ≡ N h → Decoded h a t w′
   shown-of a room = subst (λ (z : Left). Decoded h a (z .1 .1) (z .1 .2)) p (decoded-is o damaged a room)
 
-  left-long : length w′ ≡ 2 * N h
+  pub left-long : length w′ ≡ 2 * N h
   left-long = ap (λ (z : Left). length (z .1 .2)) (sym p) ∙ decoded-long o damaged
 
   pub marked-of : {b : Bytes} {r : Page} {a a′ : List ℕ} {w″ : List ℤ} → Shows v h t b a w′ r a′ w″ → Markable h (N h) w″

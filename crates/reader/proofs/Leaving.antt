@@ -28,7 +28,7 @@ use Rattle.planes.specs.Marks.{bit}
 use Rattle.reader.specs.declared.page.Page.{Page}
 use Rattle.reader.specs.Settings.{N, roomChecks}
 use Rattle.reader.specs.Decoding.{samplesFrom, handed, decoded, pieces}
-use Rattle.reader.specs.Page.{headerOf, lentVerdict, verdict, samplesBy, pageRefused, Reads}
+use Rattle.reader.specs.Page.{headerOf, lentVerdict, verdict, samplesBy, workBy, pageRefused, Reads}
 use Rattle.reader.specs.Modes.{decodedBy, verdictIn, piecesIn, coefficientsOf, lostSample, lostMarks, roomChecksIn, lentVerdictIn, verdictOf, ReadsDamaged}
 use Rattle.reader.specs.Places.{distanceIn, distancePlane, roomChecksBy, lentVerdictBy, verdictBy, LeavesBy, ReadsBy, ReadsPlaces}
 use Rattle.reader.specs.Steps.{filledBy, DecodesBy}
@@ -77,6 +77,12 @@ cells-back : (v : Verdict) (new a : List ℕ) (n : ℕ) → length new ≡ n →
 cells-back Fine new a n e = ap (λ (m : ℕ). new ++ drop m a) (sym e)
 cells-back (Refused k) new a n e = take-append-drop n a
 
+pub work-back : (w : List ℤ) {n m : ℕ} {w₁ : List ℤ} → n ≡ m → 2 * n ≤ length w → w₁ ≡ replicate (length (take (2 * n) w)) (pos 0) → w₁ ++ drop (2 * n) w ≡ workBy Fine (2 * m) w
+work-back w {n} e room zeros =
+    (λ i. zeros i ++ drop (2 * n) w)
+    ∙ (λ i. replicate (length-take-le (2 * n) w room i) (pos 0) ++ drop (2 * n) w)
+    ∙ ap (λ (k : ℕ). replicate (2 * k) (pos 0) ++ drop (2 * k) w) e
+
 module _ {damaged placed : Bool} {s : List ℕ} {h : Header} {v : Verdict} {a : List ℕ} {w : List ℤ} {m d : List ℕ} {r : Page} where
   -- where row 5 has passed
   pub leaves : {n k j : ℕ} {a₁ : List ℕ} {w₁ : List ℤ} {m₁ d₁ : List ℕ} → v ≡ Fine → n ≡ N h → k ≡ cond damaged n 0 → j ≡ cond placed n 0 → 2 * n ≤ length w
@@ -89,10 +95,7 @@ module _ {damaged placed : Bool} {s : List ℕ} {h : Header} {v : Verdict} {a : 
             record {
               page = t .beside .page;
               samples = (λ i. t .beside .samples i ++ drop n a) ∙ cells-back (verdictIn s h damaged) (handed h (coefficientsOf s h damaged)) a n (handed-length h (coefficientsOf s h damaged) ∙ sym f);
-              work =
-                  (λ i. t .beside .work i ++ drop (2 * n) w)
-                  ∙ (λ i. replicate (length-take-le (2 * n) w room i) (pos 0) ++ drop (2 * n) w)
-                  ∙ ap (λ (k : ℕ). replicate (2 * k) (pos 0) ++ drop (2 * k) w) f;
+              work = work-back w f room (t .beside .work);
               marks = (λ i. t .beside .marks i ++ drop k m) ∙ cells-back (verdictIn s h damaged) (cond damaged (lostMarks s h) []) m k (asked-length damaged (lostMarks s h) (marks-length s h) f ∙ sym g);
             };
         distances =

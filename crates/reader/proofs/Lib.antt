@@ -6,3 +6,4 @@ pub mod Marking
 pub mod Placing
 pub mod Decoded
 pub mod Leaving
+pub mod Judgement

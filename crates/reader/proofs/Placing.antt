@@ -35,7 +35,7 @@ use Rattle.reader.proofs.Openings.{fq-few, settled, colours}
 use Rattle.reader.proofs.Marking.{none-lent}
 
 -- the slices of a page that is read are walked, in either mode
-page-walks : (s : List ℕ) (h : Header) (damaged : Bool) → verdictIn s h damaged ≡ Fine → walkStream s (settingOf h) (h .slice) .0 ≡ Fine
+pub page-walks : (s : List ℕ) (h : Header) (damaged : Bool) → verdictIn s h damaged ≡ Fine → walkStream s (settingOf h) (h .slice) .0 ≡ Fine
 unfolding decodedBy streamBy stream
 page-walks s h false fine = λ i. stream-walks s (settingOf h) (begun h) (decodedBy s h false .1) (λ j. (fine j, decodedBy s h false .1)) i .0
 page-walks s h true fine = sym (damaged-walks s (settingOf h) (begun h) .0) ∙ fine

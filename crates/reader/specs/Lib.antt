@@ -4,5 +4,6 @@ pub mod Decoding
 pub mod Page
 pub mod Modes
 pub mod Places
+pub mod Judging
 pub mod Steps
 pub mod Sizes

@@ -21,15 +21,18 @@ use Rattle.header.specs.declared.header.Header.{Header}
 use Rattle.shapes.specs.Shapes.{shapeOf}
 use Rattle.packets.specs.declared.Setting.{Setting}
 use Rattle.packets.specs.Ready.{Settled}
+use Rattle.slices.specs.declared.Reading.{Reading}
 use Rattle.slices.specs.Walk.{walkStream}
+use Rattle.damage.specs.Pieces.{streamPiecesBy}
+use Rattle.damage.specs.Steps.{Streamed}
 use Rattle.planes.specs.Values.{Bands, planes}
 use Rattle.planes.specs.Marks.{markOf, bit}
 use Rattle.planes.specs.Places.{coefficientsIn, Ready}
 use Rattle.reader.specs.declared.page.Page.{Page}
 use Rattle.reader.specs.Settings.{settingOf, N}
-use Rattle.reader.specs.Decoding.{handed, distancesFrom}
+use Rattle.reader.specs.Decoding.{handed, distancesFrom, begun}
 use Rattle.reader.specs.Page.{pageBy}
-use Rattle.reader.specs.Modes.{verdictIn, topsIn, piecesIn, coefficientsOf, lostMarks}
+use Rattle.reader.specs.Modes.{decodedBy, verdictIn, topsIn, piecesIn, coefficientsOf, lostMarks}
 use Rattle.reader.specs.Places.{placeDistance, distancePlane}
 
 -- ---- what is asked
@@ -74,6 +77,10 @@ pub record PlaceableBy (v : Verdict) (damaged placed : Bool) (s : List ℕ) (h :
 pub record IsSetting (h : Header) (c : Setting) : Type 0 where
   pub is : c ≡ settingOf h
   pub settled : Settled c
+
+-- the slices behind an accepted header, and the end of the stream, read into 2N cells that were 0
+abbrev pub Sliced : Bool → List ℕ → Header → Reading → List ℤ → Type 0
+Sliced damaged s h = Streamed (decodedBy s h damaged) (streamPiecesBy s (settingOf h) damaged (begun h))
 
 -- where N samples are lent, they are filled or left
 abbrev pub filledBy : Verdict → List ℕ → List ℕ → List ℕ

@@ -1,7 +1,8 @@
 // Reads a page: the header, row 5, the slices into the work cells, then samples and distances; where they are asked for, marks, and a distance for each sample.
+pub mod judging;
 pub mod page;
 mod records;
-mod settings;
+pub mod settings;
 
 use crate::page::Page;
 use crate::records::refused;
@@ -16,6 +17,7 @@ use rows::Check;
 use rows::Field;
 use rows::Row;
 use rows::Verdict;
+use slices::Reading;
 ghost use mathlib.Core.Path.{_≡_};
 ghost use mathlib.Core.Bool.{true, cond};
 ghost use mathlib.Core.List.{[], _∷_};
@@ -30,10 +32,10 @@ ghost use Rattle.reader.specs.Settings.{N};
 ghost use Rattle.reader.specs.Page.{Reads};
 ghost use Rattle.reader.specs.Modes.{verdictIn, ReadsDamaged};
 ghost use Rattle.reader.specs.Places.{roomChecksBy, LeavesBy, ReadsBy, ReadsPlaces, ReadsDamagedPlaces};
-ghost use Rattle.reader.specs.Steps.{Opened, Decoded, Shows, Markable, Marked, MarkedIn, Placeable, PlaceableBy, Placed, PlacedIn, DecodesBy};
+ghost use Rattle.reader.specs.Steps.{Opened, Sliced, Decoded, Shows, Markable, Marked, MarkedIn, Placeable, PlaceableBy, Placed, PlacedIn, DecodesBy};
 
 // All cells 0.
-fn clear(cells: &mut [i64])
+pub(crate) fn clear(cells: &mut [i64])
     ensures { λ _. ⌜ now (cells .exit) ≡ replicate (length (now (cells .entry))) (pos 0) ⌝ }
 {
     let n = cells.len();
@@ -181,6 +183,16 @@ fn place_by(
     }
 }
 
+// All slices behind an accepted header and the end of the stream, by 2N work cells. These may hold anything before.
+pub(crate) fn decode_slices(damaged: bool, stream: &[u8], cells: &mut [i64], h: Header) -> Reading
+    requires { ⌜ Opened (now stream) h × (length (now cells) ≡ 2 * N h) ⌝ }
+    ensures { λ r. ⌜ Sliced damaged (now (stream .entry)) h r (now (cells .exit)) ⌝ }
+{
+    let c = setting_of(h);
+    clear(cells);
+    damage::stream(damaged, stream, cells, c, h.slice, [0; 40])
+}
+
 // The page behind an accepted header, into N samples, of a damaged page N marks and, where a plane is asked for, N distances, by 2N work cells.
 // There is one way out, past the last `clear`.
 fn decode(
@@ -196,9 +208,7 @@ fn decode(
     requires { ⌜ Opened (now stream) h × (length (now samples) ≡ N h) × (length (now cells) ≡ 2 * N h) × (length (now marks) ≡ cond damaged (N h) 0) × (length (now distances) ≡ cond placed (N h) 0) ⌝ }
     ensures { λ r. ⌜ DecodesBy damaged placed (now (stream .entry)) h (now (samples .entry)) (now (cells .entry)) (now (marks .entry)) (now (distances .entry)) r (now (samples .exit)) (now (cells .exit)) (now (marks .exit)) (now (distances .exit)) ⌝ }
 {
-    let c = setting_of(h);
-    clear(cells);
-    let r = damage::stream(damaged, stream, cells, c, h.slice, [0; 40]);
+    let r = decode_slices(damaged, stream, cells, h);
     let v = r.verdict;
     let tops = r.tops;
     let behind = r.bytes;
@@ -222,7 +232,7 @@ fn plane_row(asked: bool, h: Header, plane: Field, n: usize, cells: usize) -> Ve
 }
 
 // Before the planes N sample cells, and 2N work cells.
-fn room_row(
+pub(crate) fn room_row(
     damaged: bool,
     placed: bool,
     h: Header,

@@ -67,6 +67,9 @@ pub enum Field {
     B,
     Sx,
     Sy,
+    // samples that a filter joins, across and down
+    Across,
+    Down,
     Lwgt,
     G,
     Lcom,
@@ -84,6 +87,8 @@ pub enum Field {
     Lslh,
     Ysl,
     Lprc,
+    // a whole precinct, its header and what Lprc declares
+    Precinct,
     Q,
     R,
     D,
@@ -92,6 +97,9 @@ pub enum Field {
     Dr,
     Significance,
     Counts,
+    // a bitplane count, and the one-bits of a code of one
+    M,
+    Ones,
     Data,
     Signs,
     // bytes of a precinct that its packets leave

@@ -4,7 +4,7 @@ use mathlib.Core.List.{List, _++_}
 use native.Mathlib.Omega.{arith}
 use lib.ListN.{length}
 use Rattle.rows.specs.declared.Field.{Field}
-use Rattle.rows.specs.declared.Field.the-variants.{Cdt, Wgt, Crg, Sli, Sx, Sy, Lcdt, Lwgt, Lcom, Lcrg, Lcwd}
+use Rattle.rows.specs.declared.Field.the-variants.{Cdt, Wgt, Crg, Sli, Across, Down, Lcdt, Lwgt, Lcom, Lcrg, Lcwd}
 use Rattle.rows.specs.declared.Row.the-variants.{Lacking}
 use Rattle.rows.proofs.Sites.{Sited, standing, standing-then, sited-append, sited-each}
 use Rattle.rows.proofs.Tables.{held}
@@ -32,10 +32,10 @@ component-sited n s h p c l =
     let wide = samples-of (h .wf) (sxAt s p c) in
     let high = samples-of (h .hf) (syAt s p c) in
     let levels = levels-of (h .nly) (syAt s p c) in
-    let down = standing-then n (syChecks s h p c) (filterChecks Sy place high levels) (omega arith) (filter-sited n Sy place high levels l) in
+    let down = standing-then n (syChecks s h p c) (filterChecks Down place high levels) (omega arith) (filter-sited n Down place high levels l) in
     standing-then n (depthChecks s h p c) (acrossChecks s h p c ++ downChecks s h p c) (omega arith)
     (sited-append n (acrossChecks s h p c) (downChecks s h p c)
-    (standing-then n (sxChecks s h p c) (filterChecks Sx place wide (h .nlx)) (omega arith) (filter-sited n Sx place wide (h .nlx) l))
+    (standing-then n (sxChecks s h p c) (filterChecks Across place wide (h .nlx)) (omega arith) (filter-sited n Across place wide (h .nlx) l))
     (λ _. down))
 
 -- ---- a segment, where its marker is in the stream

@@ -9,7 +9,7 @@ use Rattle.bits.specs.Fields.{fieldAt}
 use Rattle.rows.specs.Rows.{check, ample, each}
 use Rattle.rows.specs.declared.Check.{Check}
 use Rattle.rows.specs.declared.Field.{Field}
-use Rattle.rows.specs.declared.Field.the-variants.{Cw, B, Sx, Sy}
+use Rattle.rows.specs.declared.Field.the-variants.{Cw, B, Sx, Sy, Across, Down}
 use Rattle.rows.specs.declared.Row.the-variants.{Value, Lacking}
 use Rattle.picture.specs.Picture.{bitsAt}
 use Rattle.picture.specs.declared.picture.Picture.{Picture}
@@ -82,7 +82,7 @@ module _ (s : List ℕ) (h : Picture) (p c : ℕ) where
 
   -- then two samples to each filter across
   abbrev pub acrossChecks : List Check
-  acrossChecks = sxChecks ++ filterChecks Sx (samplingPlace p c) (samples-of (h .wf) (sxAt s p c)) (h .nlx)
+  acrossChecks = sxChecks ++ filterChecks Across (samplingPlace p c) (samples-of (h .wf) (sxAt s p c)) (h .nlx)
 
   -- Table A.15, sy[c]: 1 to sx[c]. F.2: with the reversible colour transform it is 1. Document 01: fewer levels down than none are answered 3, and
   -- NLy − log2 sy is none or more where sy is at most 2^NLy
@@ -95,7 +95,7 @@ module _ (s : List ℕ) (h : Picture) (p c : ℕ) where
 
   -- then two samples to each filter down, of which the component has its own number (B.2)
   abbrev pub downChecks : List Check
-  downChecks = syChecks ++ filterChecks Sy (samplingPlace p c) (samples-of (h .hf) (syAt s p c)) (levels-of (h .nly) (syAt s p c))
+  downChecks = syChecks ++ filterChecks Down (samplingPlace p c) (samples-of (h .hf) (syAt s p c)) (levels-of (h .nly) (syAt s p c))
 
   abbrev pub componentChecks : List Check
   componentChecks = depthChecks ++ (acrossChecks ++ downChecks)

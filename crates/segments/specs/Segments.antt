@@ -115,9 +115,12 @@ sdChecks s h x g =
     ∷ check Lacking (g .at + 4) Sd (fieldAt s (g .at + 4) 8) 0 0
     ∷ []
 
--- A.4.7: 'Zero or one component-dependent wavelet decomposition marker segments', and 'Shall only be present if Nc > 3'
+-- A.4.7: 'Zero or one component-dependent wavelet decomposition marker segments', and 'Shall only be present if Nc > 3'. This is the one segment, or none
+abbrev pub mostCwd : Picture → ℕ
+mostCwd h = cond (ltb 3 (h .nc)) 1 0
+
 abbrev pub onlyChecks : Picture → Seen → ℕ → List Check
-onlyChecks h x p = check Marker p Cwd (1 + counted (x .cwd)) 0 (cond (ltb 3 (h .nc)) 1 0) ∷ []
+onlyChecks h x p = check Marker p Cwd (1 + counted (x .cwd)) (mostCwd h) (mostCwd h) ∷ []
 
 -- Table A.18: Lcwd is 3
 abbrev pub undecomposedChecks : List ℕ → Picture → Seen → Segment → List Check

@@ -148,7 +148,7 @@ fn across_row(s: &[u8], h: Picture, p: usize, c: usize, m: usize) -> Verdict
     let samples = ceil(h.wf, sx_at(s, p, c));
     rows::then(
         sx_row(s, h, p, c, m),
-        filter_row(Field::Sx, p + 5 + 2 * c, samples, h.nlx),
+        filter_row(Field::Across, p + 5 + 2 * c, samples, h.nlx),
     )
 }
 
@@ -179,7 +179,7 @@ fn down_row(s: &[u8], h: Picture, p: usize, c: usize) -> Verdict
     let levels = less(h.nly, sy / 2);
     rows::then(
         sy_row(s, h, p, c),
-        filter_row(Field::Sy, p + 5 + 2 * c, samples, levels),
+        filter_row(Field::Down, p + 5 + 2 * c, samples, levels),
     )
 }
 

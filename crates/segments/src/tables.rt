@@ -149,7 +149,7 @@ fn undecomposed_row(s: &[u8], h: Picture, x: Seen, g: Segment) -> Verdict
 {
     let most = rows::choose(3 < h.nc, 1, 0);
     let found = 1 + count(x.cwd);
-    let once = rows::one(Check(Row::Marker, g.at, Field::Cwd, found, 0, most));
+    let once = rows::one(Check(Row::Marker, g.at, Field::Cwd, found, most, most));
     let length = length_row(g, Field::Lcwd, 3, 3);
     rows::then(once, rows::then(length, sd_row(s, h, x, g)))
 }

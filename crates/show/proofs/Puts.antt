@@ -11,7 +11,8 @@ use borrow.Author.Tests.{lt-ltb, le-ltb, ne-eqb}
 use lib.Dec.{leb}
 use lib.ListN.{length, set, take, drop, getD, length-append, length-set}
 use lib.Seq.{take-suc, take-nil, set-out, set-append-seam}
-use Rattle.show.specs.Text.{ascii, decimal, cellsOf, space, gap, cellsText, rowText, Part, also, nextRow, rows, widthOf, heightOf, title, component, components}
+use Rattle.fields.specs.Letters.{ascii}
+use Rattle.show.specs.Text.{decimal, cellsOf, space, gap, cellsText, rowText, Part, also, nextRow, rows, widthOf, heightOf, title, component, components}
 use Rattle.show.specs.Buffer.{State, putByte, puts, Put, Shown, Leads}
 use Rattle.show.proofs.Counted.{counted}
 use Rattle.io.specs.Counts.{Counts}

@@ -4,22 +4,17 @@
 -- refused page, one line that tells where the stream's bytes went (request C-16).
 use mathlib.Core.Bool.{cond}
 use mathlib.Core.List.{List, [], _∷_, _++_}
-use Prim.Native.Char.{code}
 use Prim.Native.Nat.{ℕ, zero, suc, _+_, _/_, _%_}
-use Prim.Native.String.{String, [] as nothing, _∷_ as _then_}
 use lib.Dec.{ltb, leb, eqb}
 use lib.ListN.{length, getD}
 use Rattle.io.specs.Digits.{glyph}
+use Rattle.fields.specs.Letters.{ascii}
 use Rattle.pieces.specs.declared.Bytes.{Bytes}
 use Rattle.reader.specs.declared.page.Page.{Page}
 use Rattle.show.specs.declared.Plane.{Plane}
 use Rattle.show.specs.declared.Plane.the-variants.{Samples, Marks, Distances}
 
--- ---- letters and digits, in ASCII
-
-abbrev pub ascii : String → List ℕ
-ascii nothing = []
-ascii (c then s) = code c ∷ ascii s
+-- ---- words and numbers, in ASCII
 
 -- the decimal digits of a number, the last `most` of them
 unfoldable pub digitsOf : ℕ → ℕ → List ℕ
@@ -35,6 +30,10 @@ field name n = name ++ decimal n
 
 abbrev pub line : List ℕ → ℕ → List ℕ
 line name n = field name n ++ ascii "\n"
+
+-- 'answer A at P'
+abbrev pub answerLine : ℕ → ℕ → List ℕ
+answerLine answer place = field (ascii "answer ") answer ++ line (ascii " at ") place
 
 -- ---- where the bytes went
 
@@ -113,10 +112,6 @@ module _ (p : Page) where
       ++ (field (ascii " width ") (widthOf i)
       ++ (field (ascii " height ") (heightOf i) ++ (field (ascii " distance ") (distanceOf i) ++ ascii "\n")))
 
-  -- 'answer A at P'
-  abbrev pub answerLine : List ℕ
-  answerLine = field (ascii "answer ") (p .answer) ++ (field (ascii " at ") (p .place) ++ ascii "\n")
-
   -- the line above the rows of component i
   abbrev pub title : Plane → ℕ → List ℕ
   title Samples i = heading i
@@ -138,7 +133,7 @@ module _ (p : Page) where
     components (suc i) = also (components i) (component i)
 
   unfoldable pub pageText : List ℕ → List ℕ
-  pageText samples = answerLine ++ components Samples samples 4 .0
+  pageText samples = answerLine (p .answer) (p .place) ++ components Samples samples 4 .0
 
   -- a refused page has no components, so neither marks nor distances follow its answer
   unfoldable pub damagedText : List ℕ → List ℕ → List ℕ

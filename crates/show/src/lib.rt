@@ -2,6 +2,7 @@
 // then, in the same way, the marks, and of one that was read with a plane of distances last the distances; or behind the samples a line that tells where the
 // stream's bytes went. The text goes into a lent buffer; what does not fit is left out, so no caller has to reckon first.
 pub mod modes;
+pub mod why;
 
 use pieces::Bytes;
 use reader::page::Page;
@@ -11,7 +12,7 @@ ghost use Prim.Native.Nat.{_+_, _<_, _≤_};
 ghost use lib.Dec.{leb};
 ghost use lib.ListN.{length, getD};
 ghost use Rattle.io.specs.Counts.{Counts};
-ghost use Rattle.show.specs.Text.{decimal, field, line, cellsOf, gap, rowText, nextRow, rows, heading, title, component, components};
+ghost use Rattle.show.specs.Text.{decimal, field, line, answerLine, cellsOf, gap, rowText, nextRow, rows, heading, title, component, components};
 ghost use Rattle.show.specs.Text.{pageText, damagedText, distancesText, bytesText};
 ghost use Rattle.show.specs.Buffer.{Put, Shown, PageText, DamagedText, PlacesText, DamagedPlacesText, CountedText};
 
@@ -61,6 +62,14 @@ fn put_line(out: &mut [u8], at: usize, name: &[u8], n: u64) -> usize
 {
     let end = put_field(out, at, name, n);
     put_byte(out, end, b'\n')
+}
+
+// The line that every text begins with.
+fn put_answer(out: &mut [u8], answer: u64, place: u64) -> usize
+    ensures { λ r. ⌜ Put (answerLine answer place) 0 (now (out .entry)) r (now (out .exit)) ⌝ }
+{
+    let end = put_field(out, 0, b"answer ", answer);
+    put_line(out, end, b" at ", place)
 }
 
 // What stands in rows, component by component: the samples, the marks of those that are lost, or the distance of each.
@@ -277,10 +286,8 @@ fn put_components(
 fn put_page(out: &mut [u8], p: Page, samples: &[u16]) -> usize
     ensures { λ r. ⌜ Put (pageText p (now (samples .entry))) 0 (now (out .entry)) r (now (out .exit)) ⌝ }
 {
-    let a = put_field(out, 0, b"answer ", p.answer as u64);
-    let b = put_field(out, a, b" at ", p.place as u64);
-    let c = put_byte(out, b, b'\n');
-    let done = put_components(out, c, Plane::Samples, samples, b"", p);
+    let a = put_answer(out, p.answer as u64, p.place as u64);
+    let done = put_components(out, a, Plane::Samples, samples, b"", p);
     done.at
 }
 

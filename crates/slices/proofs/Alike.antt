@@ -15,7 +15,7 @@ use Rattle.rows.specs.Rows.{check, ample, first}
 use Rattle.rows.specs.declared.Verdict.{Verdict}
 use Rattle.rows.specs.declared.Verdict.the-variants.{Fine, Refused}
 use Rattle.rows.specs.declared.Row.the-variants.{Cut, Value, Length, Mode}
-use Rattle.rows.specs.declared.Field.the-variants.{Lprc, Q, R, D as ModeField, Rest, Lslh, Ysl}
+use Rattle.rows.specs.declared.Field.the-variants.{Lprc, Precinct as PrecinctField, Q, R, D as ModeField, Rest, Lslh, Ysl}
 use Rattle.rows.proofs.Tables.{each-alike}
 use Rattle.bits.specs.Alike.{Alike}
 use Rattle.bits.proofs.Alike.{alike-part, field-alike}
@@ -68,7 +68,7 @@ module _ {s s′ : List ℕ} (c : Setting) (settled : Settled c) (whole : WholeH
   header-checks-alike top = λ i.
       (check Cut at Lprc (alike .long i - at) 3 ample
       ∷ check Value at Lprc (field-alike alike (8 * at) 24 (omega arith) (omega arith) i) 1 (2 ^ 20 - 1)
-      ∷ check Length at Lprc (alike .long i - at) (header-bytes (c .shape) + field-alike alike (8 * at) 24 (omega arith) (omega arith) i) ample
+      ∷ check Length at PrecinctField (header-bytes (c .shape) + field-alike alike (8 * at) 24 (omega arith) (omega arith) i) 0 (alike .long i - at)
       ∷ check Value (at + 3) Q (precinct-at-alike i .q) 0 31
       ∷ check Value (at + 4) R (precinct-at-alike i .r) 0 (most-refinement (c .shape))
       ∷ [])
@@ -232,7 +232,7 @@ module _ {s s′ : List ℕ} (c : Setting) where
   unfolding walkTurn
   walk-turn-alike n at alike = λ i.
       let lprc = field-alike alike (8 * at) 24 (omega arith) (omega arith) i in
-      stepped (first (check Cut at Lprc (alike .long i - at) 3 ample ∷ check Length at Lprc (alike .long i - at) (header-bytes (c .shape) + lprc) ample ∷ [])) at
+      stepped (first (check Cut at Lprc (alike .long i - at) 3 ample ∷ check Length at PrecinctField (header-bytes (c .shape) + lprc) 0 (alike .long i - at) ∷ [])) at
       (at + header-bytes (c .shape) + lprc)
 
   -- a slice, where its header and each Lprc that the walk comes to have the same bytes

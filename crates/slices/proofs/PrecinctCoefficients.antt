@@ -209,7 +209,7 @@ pub record Held (c : Setting) (p : Precinct) (i β : ℕ) : Type 0 where
   pub exists : Exists (c .shape) i β x y
   pub member : Member (c .shape) (p .row) (p .column) β i x y
 
-both-true : (a b : Bool) → (a && b) ≡ true → (a ≡ true) × (b ≡ true)
+pub both-true : (a b : Bool) → (a && b) ≡ true → (a ≡ true) × (b ≡ true)
 both-true true b e = (refl, e)
 both-true false b e = let z : _≡_ {A = ℕ} 0 1 = cc in absurd (omega arith)
 

@@ -145,7 +145,7 @@ module _ (s : List ℕ) (c : Setting) (row column at : ℕ) (top : Bool) where
   pub header-inside : first (headerChecks s c row column at top) ≡ Fine → precinctAt s c row column at .end ≤ length s
   header-inside e =
       let h = held (fieldChecks s c row column at) (append-fine (fieldChecks s c row column at) (each (NL (c .shape)) (modeChecks s c row column at top)) e .0) in
-      omega (arith, h .1 .0 .least, h .1 .1 .0 .least)
+      omega (arith, h .1 .0 .least, h .1 .1 .0 .most)
 
   pub header-modes : first (headerChecks s c row column at top) ≡ Fine → top ≡ true → (b : ℕ) → b < NL (c .shape) → band-exists (c .shape) b ≡ true
       → D s c (precinctAt s c row column at) b % 2 ≤ 0

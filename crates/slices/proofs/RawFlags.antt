@@ -1,22 +1,21 @@
 -- C.3 of an accepted precinct, in its own words: where Rl = 0, two packets that have a line of the same band have the same raw flag. Assumes nothing.
-use Prim.Native.Nat.{ℕ, _+_, _-_, _≤_, _<_}
+use Prim.Native.Nat.{ℕ, _+_, _≤_, _<_}
 use mathlib.Core.Path.{_≡_, refl, sym, _∙_}
 use mathlib.Core.Bool.{Bool, true, false, cond}
-use mathlib.Core.List.{List, [], _∷_, _++_}
+use mathlib.Core.List.{List, [], _∷_}
 use native.Mathlib.Decide.{decLt}
 use native.Mathlib.Omega.{arith}
 use lib.IntN.{ℤ}
 use lib.ListN.{length, getD, set, length-set}
 use lib.Seq.{getD-set-same, getD-set-other}
 use Rattle.loops.proofs.Before.{before-carries}
-use Rattle.rows.specs.Rows.{check, ample, first}
+use Rattle.rows.specs.Rows.{check, first}
 use Rattle.rows.specs.declared.Check.{Check}
 use Rattle.rows.specs.declared.Verdict.{Verdict}
 use Rattle.rows.specs.declared.Verdict.the-variants.{Fine, Refused}
-use Rattle.rows.specs.declared.Row.the-variants.{Length, Mode}
-use Rattle.rows.specs.declared.Field.the-variants.{Packet, Dr}
+use Rattle.rows.specs.declared.Row.the-variants.{Mode}
+use Rattle.rows.specs.declared.Field.the-variants.{Dr}
 use Rattle.rows.proofs.Tables.{append-fine, each-fine, held}
-use Rattle.bits.specs.Packet.{headerBytes}
 use Rattle.layout.specs.Built.{Built}
 use Rattle.layout.specs.Slots.{slots, candidates, sharing}
 use Rattle.layout.proofs.Slots.{slots-most}
@@ -28,6 +27,15 @@ use Rattle.slices.specs.Precinct.{precinctAt, body, noFlags, Packing, pa
 use Rattle.slices.specs.Reached.{beforePacket, rawFlag}
 use Rattle.slices.proofs.PrecinctLaws.{clash}
 use Rattle.slices.proofs.Reaching.{precinct-packet, precinct-empty}
+
+-- the checks behind the first of a table, whatever that one is
+abbrev later : List Check → List Check
+later [] = []
+later (c ∷ cs) = cs
+
+later-fine : (t : List Check) → first t ≡ Fine → first (later t) ≡ Fine
+later-fine [] e = e
+later-fine (c ∷ cs) e = append-fine (c ∷ []) cs e .1
 
 -- an accepted packet has the flag of each earlier one with which it shares a band
 module _ (s : List ℕ) (c : Setting) (p : Precinct) (slot at : ℕ) (raws : List ℕ) (cells : List ℤ) where
@@ -43,9 +51,7 @@ module _ (s : List ℕ) (c : Setting) (p : Precinct) (slot at : ℕ) (raws : Lis
       → head s c p slot at .dr ≡ getD raws k 0
   unfolding flagChecks
   packet-flag fine rl k l shared =
-      let header = check Length (p .at) Packet (p .end - at) (headerBytes (c .widths)) ample in
-      let all = append-fine (header ∷ []) (flagChecks s c p slot at raws ++ behind-flag s c p slot at) (head-fine fine) .1 in
-      let flags = append-fine (flagChecks s c p slot at raws) (behind-flag s c p slot at) all .0 in
+      let flags = append-fine (flagChecks s c p slot at raws) (behind-flag s c p slot at) (later-fine (headChecks s c p slot at raws) (head-fine fine)) .0 in
       let one = each-fine slot f (rw rl at flags) k l in
       let h = held (own k ∷ []) (rw shared at one) .0 in
       omega (arith, h .least, h .most)

@@ -15,7 +15,7 @@ use Rattle.rows.specs.declared.Check.{Check}
 use Rattle.rows.specs.declared.Verdict.{Verdict}
 use Rattle.rows.specs.declared.Verdict.the-variants.{Fine, Refused}
 use Rattle.rows.specs.declared.Row.the-variants.{Cut, Length}
-use Rattle.rows.specs.declared.Field.the-variants.{Lprc}
+use Rattle.rows.specs.declared.Field.the-variants.{Lprc, Precinct as PrecinctField}
 use Rattle.rows.proofs.Tables.{joined, fine-passes, append-fine, held}
 use Rattle.bits.specs.Fields.{fieldAt}
 use Rattle.layout.specs.Bands.{NL}
@@ -37,7 +37,7 @@ module _ (s : List ℕ) (c : Setting) (at : ℕ) where
   pub walk-inside : first (walkChecks s c at) ≡ Fine → endOf s c at ≤ length s
   walk-inside e =
       let h = held (walkChecks s c at) e in
-      omega (arith, h .0 .least, h .1 .0 .least)
+      omega (arith, h .0 .least, h .1 .0 .most)
 
   pub walk-turned : (n : ℕ) {v : Verdict} {r : Walked} {to : ℕ} → v ≡ first (walkChecks s c at) → to ≡ endOf s c at → stepped v at to ≡ stepped (r .verdict) (r .at) (r .at)
       → r .verdict ≡ v → (v ≡ Fine → r .at ≡ to) → WalkTurned s (walkTurn s c n at) r
@@ -154,7 +154,7 @@ module _ (s : List ℕ) (c : Setting) where
   header-walks row column at top e =
       let h = held (fieldChecks s c row column at) (append-fine (fieldChecks s c row column at) (each (NL (c .shape)) (modeChecks s c row column at top)) e .0) in
       let cut = check Cut at Lprc (length s - at) 3 ample in
-      let long = check Length at Lprc (length s - at) (header-bytes (c .shape) + fieldAt s at 24) ample in
+      let long = check Length at PrecinctField (header-bytes (c .shape) + fieldAt s at 24) 0 (length s - at) in
       fine-passes (cut ∷ []) (long ∷ []) (one-fine cut (h .0 .least) (h .0 .most)) ∙ one-fine long (h .1 .1 .0 .least) (h .1 .1 .0 .most)
 
   pub precinct-walks : (row column at : ℕ) (top : Bool) (cells : List ℤ) → precinct s c row column at top cells .0 ≡ Fine → first (walkChecks s c at) ≡ Fine

@@ -11,7 +11,7 @@ use Rattle.rows.specs.declared.Check.{Check}
 use Rattle.rows.specs.declared.Verdict.{Verdict}
 use Rattle.rows.specs.declared.Verdict.the-variants.{Fine, Refused}
 use Rattle.rows.specs.declared.Row.the-variants.{Cut, Value, Length, Mode}
-use Rattle.rows.specs.declared.Field.the-variants.{Lprc, Q, R, D as ModeField, Rest}
+use Rattle.rows.specs.declared.Field.the-variants.{Lprc, Precinct as PrecinctField, Q, R, D as ModeField, Rest}
 use Rattle.bits.specs.Fields.{fieldAt}
 use Rattle.layout.specs.Bands.{NL, band-exists}
 use Rattle.layout.specs.Precincts.{lines}
@@ -40,7 +40,7 @@ module _ (s : List ℕ) (c : Setting) (row column at : ℕ) where
   fieldChecks =
       check Cut at Lprc (length s - at) 3 ample
       ∷ check Value at Lprc lprc 1 (2 ^ 20 - 1)
-      ∷ check Length at Lprc (length s - at) (header-bytes (c .shape) + lprc) ample
+      ∷ check Length at PrecinctField (header-bytes (c .shape) + lprc) 0 (length s - at)
       ∷ check Value (at + 3) Q (precinctAt .q) 0 31
       ∷ check Value (at + 4) R (precinctAt .r) 0 (most-refinement (c .shape))
       ∷ []

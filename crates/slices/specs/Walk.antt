@@ -12,7 +12,7 @@ use Rattle.rows.specs.declared.Check.{Check}
 use Rattle.rows.specs.declared.Verdict.{Verdict}
 use Rattle.rows.specs.declared.Verdict.the-variants.{Fine, Refused}
 use Rattle.rows.specs.declared.Row.the-variants.{Cut, Length}
-use Rattle.rows.specs.declared.Field.the-variants.{Lprc}
+use Rattle.rows.specs.declared.Field.the-variants.{Lprc, Precinct as PrecinctField}
 use Rattle.bits.specs.Fields.{fieldAt}
 use Rattle.layout.specs.Precincts.{Np, slices}
 use Rattle.layout.specs.Headers.{header-bytes}
@@ -42,7 +42,7 @@ module _ (s : List ℕ) (c : Setting) where
   abbrev pub walkChecks : ℕ → List Check
   walkChecks at =
       check Cut at Lprc (length s - at) 3 ample
-      ∷ check Length at Lprc (length s - at) (header-bytes (c .shape) + fieldAt s at 24) ample
+      ∷ check Length at PrecinctField (header-bytes (c .shape) + fieldAt s at 24) 0 (length s - at)
       ∷ []
 
   unfoldable pub walkTurn : ℕ → ℕ → Turn ℕ (Verdict × ℕ)

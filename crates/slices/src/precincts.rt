@@ -91,7 +91,7 @@ fn field_row(s: &[u8], c: Setting, p: Precinct) -> Verdict
     rows::first([
         Check(Row::Cut, at, Field::Lprc, there, 3, AMPLE),
         Check(Row::Value, at, Field::Lprc, lprc, 1, 0xfffff),
-        Check(Row::Length, at, Field::Lprc, there, size, AMPLE),
+        Check(Row::Length, at, Field::Precinct, size, 0, there),
         Check(Row::Value, at + 3, Field::Q, p.q, 0, 31),
         Check(Row::Value, at + 4, Field::R, p.r, 0, most),
         HOLDS,

@@ -46,7 +46,7 @@ fn walk_turn(s: &[u8], c: Setting, n: usize, at: usize) -> Walked
     let there = left(s, at);
     let v = rows::first([
         Check(Row::Cut, at, Field::Lprc, there, 3, AMPLE),
-        Check(Row::Length, at, Field::Lprc, there, size, AMPLE),
+        Check(Row::Length, at, Field::Precinct, size, 0, there),
         HOLDS,
         HOLDS,
         HOLDS,

@@ -41,8 +41,8 @@ to-hold-requires c κs = (small (c .before), c .before .before .before .before .
 count-cell-requires : tie.Need-count-cell-requires Inv-loop μ-loop
 count-cell-requires c κs = omega (arith, inside (c .before .before .before .before .before .before))
 
-mul-t21 : tie.Need-mul-t21 Inv-loop μ-loop
-mul-t21 c = omega (arith, c .count-cell .ensures, inside (c .before .before .before .before .before .before .before))
+mul-t23 : tie.Need-mul-t23 Inv-loop μ-loop
+mul-t23 c = omega (arith, c .count-cell .ensures, inside (c .before .before .before .before .before .before .before))
 
 slice-set-from-cells : tie.Need-slice-set-from-cells Inv-loop μ-loop
 slice-set-from-cells c =
@@ -66,8 +66,14 @@ returns c =
 returns-2 : tie.Need-returns-2 Inv-loop μ-loop
 unfolding lineCounts
 returns-2 c =
-    let l = c .before .before .before .before in
-    stops (l .before .loop .inv .3) (l .loop-test .taken) (turn-is _ _ _ _ _ _ _ _ (c .before .before .group-at .ensures) _ (c .enum-told2 .given .1))
+    let l = c .before .before .before .before .before in
+    stops (l .before .loop .inv .3) (l .loop-test .taken) (turn-is _ _ _ _ _ _ _ _ (c .before .before .before .group-at .ensures) _ (c .before .m2 .given .1))
+
+returns-3 : tie.Need-returns-3 Inv-loop μ-loop
+unfolding lineCounts
+returns-3 c =
+    let l = c .before .before .before .before .before in
+    stops (l .before .loop .inv .3) (l .loop-test .taken) (turn-is _ _ _ _ _ _ _ _ (c .before .before .before .group-at .ensures) _ (c .before .n .given .1))
 
 loop-again : tie.Need-loop-again Inv-loop μ-loop
 loop-again c =
@@ -81,9 +87,9 @@ loop-again c =
           (c .before .count-cell .ensures) (c .group-nibbles .ensures .number)),
     )
 
-returns-3 : tie.Need-returns-3 Inv-loop μ-loop
+returns-4 : tie.Need-returns-4 Inv-loop μ-loop
 unfolding lineCounts
-returns-3 c = ends (c .before .loop .inv .3) (c .loop-test .left)
+returns-4 c = ends (c .before .loop .inv .3) (c .loop-test .left)
 
 pub line-counts-spec : {M : Type 1} → statement M
 line-counts-spec =
@@ -97,7 +103,7 @@ line-counts-spec =
     (λ c. search needs)
     to-hold-requires
     count-cell-requires
-    mul-t21
+    mul-t23
     slice-set-from-cells
     group-nibbles-requires
     add-need
@@ -109,6 +115,9 @@ line-counts-spec =
     returns-2
     (λ c. search needs)
     (λ c. search needs)
+    returns-3
+    (λ c. search needs)
+    (λ c. search needs)
     loop-again
     (λ c. search needs)
-    returns-3)
+    returns-4)

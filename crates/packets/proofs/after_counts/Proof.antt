@@ -6,7 +6,7 @@ use borrow.Author.Needs.{needs}
 use denote.Ref.{now}
 use Rattle.rows.specs.Rows.{first}
 use Rattle.packets.specs.Packets.{countChecks, dataChecks}
-use Rattle.packets.proofs.Stretches.{done-table, done-inside, done-content, after-cut, cut-content, after-high, high-content}
+use Rattle.packets.proofs.Stretches.{done-table, done-inside, done-content, cut-content, high-content, long-content}
 use Rattle.packets.proofs.after_counts.Statement.{statement}
 use Rattle.packets.proofs.after_counts.Tie as tie
 
@@ -25,6 +25,9 @@ data-row-requires : tie.Need-data-row-requires
 data-row-requires c κs =
     let h = c .before .before .before .before .before .pre in
     (h .2, omega (arith, h .1 .dat, h .1 .sgn), omega (arith, h .1 .sgn, h .1 .past))
+
+long-row-requires : tie.Need-long-row-requires
+long-row-requires c κs = c .before .before .before .before .pre .0 .within .slotted .settled .br
 
 values-by-requires : tie.Need-values-by-requires
 values-by-requires c κs =
@@ -51,19 +54,24 @@ returns-2 : tie.Need-returns-2
 returns-2 c =
     let b = c .before .before .before .before .before in
     let a = b .args in
-    let e = c .before .before .enum-told .given .1 in
     let none = c .none .ensures in
-    cut-content (now (a .s)) (a .c) (a .p) (a .slot) (a .parts .at) {r = c .none .result} (none .1, none .2, none .3)
-    (after-cut (now (a .s)) (a .c) (a .p) (a .slot) (a .parts .at) (b .pre .1) (now (a .cells)) e (none .0 ∙ c .before .one .ensures)) e
+    cut-content (now (a .s)) (a .c) (a .p) (a .slot) (a .parts .at) (b .pre .1) {r = c .none .result} (none .1, none .2, none .3) (c .before .before .enum-told .given .1) (none .0 ∙ c .before .one .ensures)
 
 returns-3 : tie.Need-returns-3
 returns-3 c =
-    let b = c .before .before .before .before .before in
+    let b = c .before .before .before .before .before .before in
     let a = b .args in
-    let e = c .before .before .enum-told2 .given .1 in
     let none = c .none2 .ensures in
-    high-content (now (a .s)) (a .c) (a .p) (a .slot) (a .parts .at) {r = c .none2 .result} (none .1, none .2, none .3)
-    (after-high (now (a .s)) (a .c) (a .p) (a .slot) (a .parts .at) (b .pre .1) (now (a .cells)) e (none .0 ∙ c .before .one2 .ensures)) e
+    high-content (now (a .s)) (a .c) (a .p) (a .slot) (a .parts .at) (b .pre .1) {r = c .none2 .result} (none .1, none .2, none .3) (c .before .before .before .line2 .given .1) (b .pre .3)
+    (none .0 ∙ c .before .one2 .ensures)
+
+returns-4 : tie.Need-returns-4
+returns-4 c =
+    let b = c .before .before .before .before .before .before in
+    let a = b .args in
+    let none = c .none3 .ensures in
+    long-content (now (a .s)) (a .c) (a .p) (a .slot) (a .parts .at) (b .pre .1) {r = c .none3 .result} (none .1, none .2, none .3) (c .before .before .before .line3 .given .1) (b .pre .3)
+    (none .0 ∙ c .before .long-row .ensures)
 
 pub after-counts-spec : {M : Type 1} → statement M
 after-counts-spec =
@@ -83,6 +91,10 @@ after-counts-spec =
     (λ c κs. search needs)
     (λ c κs. search needs)
     (λ c. search needs)
+    long-row-requires
+    (λ c κs. search needs)
+    (λ c. search needs)
     returns
     returns-2
-    returns-3)
+    returns-3
+    returns-4)

@@ -1,6 +1,9 @@
 -- `packets::counts_by` meets its contract. Assumes nothing.
+use mathlib.Core.Path.{subst}
 use borrow.Author.Needs.{needs}
 use denote.Ref.{now}
+use Rattle.counts.specs.Lines.{Founded}
+use Rattle.packets.proofs.Laws.{counts-founded}
 use Rattle.packets.proofs.Stretches.{working-still}
 use Rattle.packets.proofs.Pieces.{content-holds, passed-on, passed-none}
 use Rattle.packets.proofs.counts_by.Statement.{statement}
@@ -14,7 +17,13 @@ counts-of-requires c κs =
 after-counts-requires : tie.Need-after-counts-requires
 after-counts-requires c κs =
     let start = c .before .before .before .before .before .before .before in
-    (working-still (start .pre .0) (c .before .before .counts-of .kept .1 .0), start .pre .1, start .pre .2 (c .before .before .before .before .enum-told .given .1))
+    let a = start .args in
+    let counted = c .before .before .counts-of .ensures in (
+      working-still (start .pre .0) (c .before .before .counts-of .kept .1 .0),
+      start .pre .1,
+      start .pre .2 (c .before .before .before .before .enum-told .given .1),
+      subst (Founded (a .c .br)) (λ i. counted i .0) (counts-founded (now (a .s)) (a .c) (a .p) (a .slot) _ _ _ (now (a .cells))),
+    )
 
 bytes-by-requires : tie.Need-bytes-by-requires
 bytes-by-requires c κs =

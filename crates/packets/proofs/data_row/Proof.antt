@@ -15,9 +15,9 @@ returns c =
     let r = a .parts in
     c .first .ensures
     ∙ (λ i. first (
-    check Length (r .dat) Data (a .p .end - r .dat) (r .sgn - r .dat) ample
+    check Length (r .dat) Data (r .sgn - r .dat) 0 (a .p .end - r .dat)
     ∷ check Length (r .dat) Data (r .sgn - r .dat) (a .bytes) ample
-    ∷ check Length (r .sgn) Signs (c .before .before .before .less .ensures i) (r .past - r .sgn) ample
+    ∷ check Length (r .sgn) Signs (r .past - r .sgn) 0 (c .before .before .before .less .ensures i)
     ∷ []))
 
 pub data-row-spec : {M : Type 1} → statement M

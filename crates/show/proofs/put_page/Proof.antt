@@ -7,22 +7,13 @@ use Rattle.show.proofs.put_page.Tie as tie
 
 returns : tie.Need-returns
 unfolding pageText
-returns c =
-    let n = c .before .before .before .before .before .before .before in
-    let b = n .before .before .before .before in
-    let place = put-both (b .put-field2 .ensures) (n .put-byte .ensures) in
-    let line = put-both (b .before .before .before .before .before .put-field .ensures) place in
-    put-both line (c .before .before .put-components .ensures .put)
+returns c = put-both (c .before .before .before .before .before .before .before .put-answer .ensures) (c .before .before .put-components .ensures .put)
 
 pub put-page-spec : {M : Type 1} → statement M
 put-page-spec =
     tie.close
     (tie.spec
     (λ c. search needs)
-    (λ c. search needs)
-    (λ c κs. search needs)
-    (λ c. search needs)
-    (λ c κs. search needs)
     (λ c κs. search needs)
     (λ c. search needs)
     (λ c κs. search needs)

@@ -5,7 +5,7 @@ use lib.IntN.{ℤ}
 use native.Mathlib.Omega.{arith}
 use borrow.Author.Needs.{needs}
 use Rattle.counts.specs.Groups.{counted}
-use Rattle.counts.proofs.Groups.{coded-past, coded-high, coded-cut, coded-count}
+use Rattle.counts.proofs.Groups.{coded-past, coded-long, coded-cut, coded-count}
 use Rattle.counts.proofs.unpack.read_code.Statement.{statement}
 use Rattle.counts.proofs.unpack.read_code.Tie as tie
 
@@ -13,7 +13,7 @@ returns : tie.Need-returns
 returns c = sym (coded-past _ _ _ _ _ (c .if1 .taken))
 
 returns-2 : tie.Need-returns-2
-returns-2 c = sym (coded-high _ _ _ _ _ (c .before .before .too-many .ensures .limit) (c .before .ones-from .ensures) (omega arith))
+returns-2 c = sym (coded-long _ _ _ _ _ (c .before .before .too-many .ensures .limit) (c .before .ones-from .ensures) (omega arith))
 
 returns-3 : tie.Need-returns-3
 returns-3 c =

@@ -1,18 +1,13 @@
 -- `counts::unpack::read_vertical` meets its contract: the tests pick the case of Table C.15. Assumes nothing.
-use Prim.Native.Nat.{ℕ, max}
-use mathlib.Core.Path.{_≡_, sym, ap, _∙_}
+use Prim.Native.Nat.{max}
+use mathlib.Core.Path.{sym, ap, _∙_}
 use native.Mathlib.Nat.{add-zero}
-use native.Mathlib.Omega.{arith}
-use lib.IntN.{ℤ, pos, _+ℤ_, _-ℤ_}
+use lib.IntN.{ℤ}
 use borrow.Author.Needs.{needs}
-use Rattle.whole.proofs.Linear.{addZ, subZ, eqZ}
 use Rattle.counts.specs.Groups.{counted}
+use Rattle.counts.proofs.Codes.{to-t}
 use Rattle.counts.proofs.unpack.read_vertical.Statement.{statement}
 use Rattle.counts.proofs.unpack.read_vertical.Tie as tie
-
--- mtop + (T − mtop)
-to-t : (m t : ℕ) → pos m +ℤ (pos t -ℤ pos m) ≡ pos t
-to-t m t = eqZ _ _ (omega (arith, addZ (pos m) (pos t -ℤ pos m), subZ (pos t) (pos m)))
 
 returns : tie.Need-returns
 returns c =

@@ -83,9 +83,16 @@ returns c =
 returns-2 : tie.Need-returns-2 Inv-loop μ-loop
 unfolding packetCounts
 returns-2 c =
-    let k = c .before .before .before .before .before in
+    let k = c .before .before .before .before .before .before in
     let l = k .before .before .loop in
-    stops (l .inv .5) (below (k .before)) (count-turn _ _ _ _ _ _ _ _ _ _ _ (k .candidate .ensures) (l .inv .3) (c .before .before .before .count-line .ensures) (c .enum-told2 .given .1))
+    stops (l .inv .5) (below (k .before)) (count-turn _ _ _ _ _ _ _ _ _ _ _ (k .candidate .ensures) (l .inv .3) (c .before .before .before .before .count-line .ensures) (c .before .m .given .1))
+
+returns-3 : tie.Need-returns-3 Inv-loop μ-loop
+unfolding packetCounts
+returns-3 c =
+    let k = c .before .before .before .before .before .before in
+    let l = k .before .before .loop in
+    stops (l .inv .5) (below (k .before)) (count-turn _ _ _ _ _ _ _ _ _ _ _ (k .candidate .ensures) (l .inv .3) (c .before .before .before .before .count-line .ensures) (c .before .ones .given .1))
 
 marks-of-requires : tie.Need-marks-of-requires Inv-loop μ-loop
 marks-of-requires c κs =
@@ -111,9 +118,9 @@ loop-again c =
       goes-on (l .inv .5) (below (k .before)) (count-turn _ _ _ _ _ _ _ _ _ _ _ (k .candidate .ensures) (l .inv .3) (count .ensures) (c .before .before .next .given .1)),
     )
 
-returns-3 : tie.Need-returns-3 Inv-loop μ-loop
+returns-4 : tie.Need-returns-4 Inv-loop μ-loop
 unfolding packetCounts
-returns-3 c = ends (c .before .loop .inv .5) (omega (arith, c .loop-test .left, c .before .before .candidate-count .ensures .0))
+returns-4 c = ends (c .before .loop .inv .5) (omega (arith, c .loop-test .left, c .before .before .candidate-count .ensures .0))
 
 pub packet-counts-spec : {M : Type 1} → statement M
 packet-counts-spec =
@@ -133,10 +140,13 @@ packet-counts-spec =
     (λ c. search needs)
     (λ c. search needs)
     returns-2
+    (λ c. search needs)
+    (λ c. search needs)
+    returns-3
     marks-of-requires
     add-z
     (λ c. search needs)
     (λ c. search needs)
     loop-again
     (λ c. search needs)
-    returns-3)
+    returns-4)

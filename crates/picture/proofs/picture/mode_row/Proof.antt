@@ -5,7 +5,7 @@ use Rattle.picture.proofs.picture.mode_row.Statement.{statement}
 use Rattle.picture.proofs.picture.mode_row.Tie as tie
 
 returns : tie.Need-returns
-returns c = c .first .ensures ∙ rw (c .before .choose3 .ensures, c .before .before .choose2 .ensures, c .before .before .before .choose .ensures)
+returns c = c .first .ensures ∙ rw (c .before .choose2 .ensures, c .before .before .before .choose .ensures)
 
 pub mode-row-spec : {M : Type 1} → statement M
 mode-row-spec =
@@ -13,8 +13,6 @@ mode-row-spec =
     (tie.spec
     (λ c κs. search needs)
     (λ c κs. search needs)
-    (λ c κs. search needs)
-    (λ c. search needs)
     (λ c. search needs)
     (λ c. search needs)
     (λ c. search needs)

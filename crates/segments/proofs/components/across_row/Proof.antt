@@ -3,7 +3,7 @@ use mathlib.Core.Path.{_∙_}
 use native.Mathlib.Omega.{arith}
 use denote.Ref.{now}
 use Rattle.rows.specs.Rows.{first}
-use Rattle.rows.specs.declared.Field.the-variants.{Sx}
+use Rattle.rows.specs.declared.Field.the-variants.{Across}
 use Rattle.rows.proofs.Tables.{joined}
 use Rattle.layout.specs.Bands.{samples-of}
 use Rattle.segments.specs.Components.{sxAt, samplingPlace, filterChecks, sxChecks}
@@ -27,8 +27,8 @@ returns c =
     let a = c .before .before .before .before .before .before .args in
     let place = samplingPlace (a .p) (a .c) in
     let wide = c .before .before .before .ceil .ensures ∙ (λ i. samples-of (a .h .wf) (c .before .before .before .before .sx-at .ensures .value i)) in
-    let f = c .before .filter-row .ensures ∙ (λ i. first (filterChecks Sx place (wide i) (a .h .nlx))) in
-    joined (sxChecks (now (a .s)) (a .h) (a .p) (a .c)) (filterChecks Sx place (samples-of (a .h .wf) (sxAt (now (a .s)) (a .p) (a .c))) (a .h .nlx)) (c .then .ensures) (c .before .before .sx-row .ensures) f
+    let f = c .before .filter-row .ensures ∙ (λ i. first (filterChecks Across place (wide i) (a .h .nlx))) in
+    joined (sxChecks (now (a .s)) (a .h) (a .p) (a .c)) (filterChecks Across place (samples-of (a .h .wf) (sxAt (now (a .s)) (a .p) (a .c))) (a .h .nlx)) (c .then .ensures) (c .before .before .sx-row .ensures) f
 
 pub across-row-spec : {M : Type 1} → statement M
 across-row-spec =

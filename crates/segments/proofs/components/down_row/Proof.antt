@@ -3,7 +3,7 @@ use mathlib.Core.Path.{_∙_}
 use native.Mathlib.Omega.{arith}
 use denote.Ref.{now}
 use Rattle.rows.specs.Rows.{first}
-use Rattle.rows.specs.declared.Field.the-variants.{Sy}
+use Rattle.rows.specs.declared.Field.the-variants.{Down}
 use Rattle.rows.proofs.Tables.{joined}
 use Rattle.layout.specs.Bands.{samples-of, levels-of}
 use Rattle.segments.specs.Components.{syAt, samplingPlace, filterChecks, syChecks}
@@ -30,8 +30,8 @@ returns c =
     let sy = c .before .before .before .before .before .sy-at .ensures .value in
     let high = c .before .before .before .before .ceil .ensures ∙ (λ i. samples-of (a .h .hf) (sy i)) in
     let levels = c .before .before .before .less .ensures ∙ (λ i. levels-of (a .h .nly) (sy i)) in
-    let f = c .before .filter-row .ensures ∙ (λ i. first (filterChecks Sy place (high i) (levels i))) in
-    joined (syChecks s (a .h) (a .p) (a .c)) (filterChecks Sy place (samples-of (a .h .hf) (syAt s (a .p) (a .c))) (levels-of (a .h .nly) (syAt s (a .p) (a .c)))) (c .then .ensures) (c .before .before .sy-row .ensures) f
+    let f = c .before .filter-row .ensures ∙ (λ i. first (filterChecks Down place (high i) (levels i))) in
+    joined (syChecks s (a .h) (a .p) (a .c)) (filterChecks Down place (samples-of (a .h .hf) (syAt s (a .p) (a .c))) (levels-of (a .h .nly) (syAt s (a .p) (a .c)))) (c .then .ensures) (c .before .before .sy-row .ensures) f
 
 pub down-row-spec : {M : Type 1} → statement M
 down-row-spec =

@@ -5,7 +5,7 @@ use native.Mathlib.Omega.{arith}
 use denote.Ref.{now}
 use Rattle.rows.specs.Rows.{check, ample, first}
 use Rattle.rows.specs.declared.Row.the-variants.{Cut, Value, Length}
-use Rattle.rows.specs.declared.Field.the-variants.{Lprc, Q, R}
+use Rattle.rows.specs.declared.Field.the-variants.{Lprc, Precinct as PrecinctField, Q, R}
 use Rattle.layout.specs.Headers.{header-bytes}
 use Rattle.slices.specs.Precinct.{lprc}
 use Rattle.slices.proofs.PrecinctLaws.{ends-at}
@@ -26,7 +26,7 @@ returns c =
     ∙ (λ i. first (
     check Cut (a .p .at) Lprc (there i) 3 ample
     ∷ check Value (a .p .at) Lprc (c .before .before .before .u24-at .ensures .value i) 1 (2 ^ 20 - 1)
-    ∷ check Length (a .p .at) Lprc (there i) (size i) ample
+    ∷ check Length (a .p .at) PrecinctField (size i) 0 (there i)
     ∷ check Value (a .p .at + 3) Q (is i .q) 0 31
     ∷ check Value (a .p .at + 4) R (is i .r) 0 (2 * c .before .band-count .ensures .0 i - 1)
     ∷ []))

@@ -5,7 +5,7 @@ use native.Mathlib.Omega.{arith}
 use denote.Ref.{now}
 use Rattle.rows.specs.Rows.{check, ample, first}
 use Rattle.rows.specs.declared.Row.the-variants.{Cut, Length}
-use Rattle.rows.specs.declared.Field.the-variants.{Lprc}
+use Rattle.rows.specs.declared.Field.the-variants.{Lprc, Precinct as PrecinctField}
 use Rattle.slices.proofs.WalkLaws.{walk-turned}
 use borrow.Author.Needs.{needs}
 use Rattle.slices.proofs.walk.walk_turn.Statement.{statement}
@@ -20,7 +20,7 @@ returns c =
     let r = c .step .ensures in
     walk-turned (now (a .s)) (a .c) (a .at) (a .n)
     (c .before .first .ensures
-    ∙ (λ i. first (check Cut (a .at) Lprc (there i) 3 ample ∷ check Length (a .at) Lprc (there i) (hb i + l i) ample ∷ [])))
+    ∙ (λ i. first (check Cut (a .at) Lprc (there i) 3 ample ∷ check Length (a .at) PrecinctField (hb i + l i) 0 (there i) ∷ [])))
     (omega (arith, hb, l)) (r .0) (r .1) (r .2)
 
 pub walk-turn-spec : {M : Type 1} → statement M
