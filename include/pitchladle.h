@@ -1,6 +1,6 @@
 /* Pitchladle: reads pages that are stored as JPEG XS (ISO/IEC 21122-1:2024), and says how far a sample may be off.
  *
- * What a function promises here is proved, for every stream and whatever the lent buffers hold: crates/pitchladle and crates/reader have the
+ * What a function promises here is proved, for every stream and whatever the lent buffers hold: crates/pitchladle, crates/reader and crates/reasons have the
  * statements. It keeps no state, asks for no memory, and writes to nothing but the buffers that it is lent.
  *
  * What the caller must see to, and nothing else does:
