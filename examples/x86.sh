@@ -1,9 +1,6 @@
 # Sourced, in the repository's root. The library is built for x86-64: on Arm a cross compiler makes the programs that link it, and an emulator runs them, both
 # from Debian's packages. Sets `compile` and `run`, the beginnings of command lines; `library` builds target/staticlib/libpitchladle.a where it is missing or old.
-install() {
-    [ "$(id -u)" -eq 0 ] && command -v apt-get >/dev/null || { echo "this needs Debian's packages $*" >&2; exit 2; }
-    { apt-get update -q && apt-get install -y -q "$@"; } >&2
-}
+. examples/install.sh
 case $(uname -m) in
 x86_64)
     compile="cc -O2" run=

@@ -3,42 +3,7 @@
  * Usage: bench READINGS FILE... Each page is read READINGS times by either, in turn, and the shortest time of each counts: processor time of this
  * program. The library's buffers are lent, and not cleared between readings. The decoder makes its own in each reading; the memory stays with the
  * program, so that neither waits for new pages of it after the first reading. */
-#include <malloc.h>
-#include <stdbool.h>
-#include <stdio.h>
-#include <stdlib.h>
-#include <time.h>
-#include "../../include/pitchladle.h"
-
-void *rival_read(const uint8_t *stream, size_t bytes);
-bool rival_agrees(const void *page, const uint16_t *samples, size_t cells);
-void rival_free(void *page);
-
-static double now(void)
-{
-    struct timespec t;
-    clock_gettime(CLOCK_PROCESS_CPUTIME_ID, &t);
-    return t.tv_sec * 1e9 + t.tv_nsec;
-}
-
-static double least(double a, double b)
-{
-    return a < b ? a : b;
-}
-
-static uint8_t *contents(const char *name, size_t *size)
-{
-    FILE *file = fopen(name, "rb");
-    if (!file || fseek(file, 0, SEEK_END) != 0)
-        return NULL;
-    *size = ftell(file);
-    uint8_t *bytes = malloc(*size + 1);
-    rewind(file);
-    if (bytes && fread(bytes, 1, *size, file) != *size)
-        bytes = NULL;
-    fclose(file);
-    return bytes;
-}
+#include "bench.h"
 
 static bool timed(const char *name, int readings)
 {
@@ -81,8 +46,7 @@ int main(int count, char **words)
         fprintf(stderr, "usage: bench READINGS FILE...\n");
         return 2;
     }
-    mallopt(M_MMAP_MAX, 0);
-    mallopt(M_TRIM_THRESHOLD, -1);
+    keep_memory();
     printf("| page | million samples | ratio | library, ns a sample | decoder, ns a sample |\n|---|---|---|---|---|\n");
     for (int i = 2; i < count; i++) {
         if (!timed(words[i], readings)) {

@@ -3,7 +3,7 @@
 //! Usage: `stream KIND SEED [large]`, KIND being syntax, picture, coefficients, coarse, filled, damaged, spoilt, apart, twin,
 //! aimed, bounds, foreign or header; or
 //! `stream measured NAME WIDTH HEIGHT`, NAME being lossless, lossy, subsampled, sheet,
-//! uniform, uniform-lossless, coarse or coarse-subsampled.
+//! uniform, uniform-lossless, columns, coarse or coarse-subsampled.
 
 use independent::a::Header;
 use std::env;
@@ -51,6 +51,7 @@ fn measured_page(name: &str, width: &str, height: &str) -> Option<Vec<u8>> {
         "sheet" => (setting::measured(width, height, true, &FULL[..1]), Q::UpTo(0)),
         "uniform" => (Header { qpih: 1, ..setting::measured(width, height, false, FULL) }, Q::UpTo(5)),
         "uniform-lossless" => (Header { qpih: 1, ..setting::measured(width, height, true, FULL) }, Q::UpTo(0)),
+        "columns" => (Header { cw: 1, ..setting::measured(width, height, true, FULL) }, Q::UpTo(0)),
         "coarse" => (Header { cw: 2, ..setting::measured(width, height, true, FULL) }, Q::InCorner(2)),
         "coarse-subsampled" => (Header { cw: 2, ..setting::measured(width, height, false, QUARTER) }, Q::InCorner(6)),
         _ => return None,

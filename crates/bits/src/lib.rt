@@ -3,7 +3,8 @@
 mod cursor;
 pub mod packet;
 
-ghost use Prim.Native.Nat.{_*_, _≤_};
+ghost use Prim.Native.Nat.{_+_, _*_, _≤_, _<_};
+ghost use lib.ListN.{length};
 ghost use Rattle.bits.specs.Fields.{IsField};
 
 // u(8) at the byte `at`.
@@ -28,6 +29,30 @@ fn bytes_at(s: &[u8], at: usize, n: usize) -> usize
         k += 1;
     }
     v
+}
+
+// u(8) at the byte `at`, which is there.
+fn byte(s: &[u8], at: usize) -> usize
+    requires { ⌜ at < length (now s) ⌝ }
+    ensures { λ r. ⌜ IsField (now (s .entry)) (8 * at) 8 r ⌝ }
+{
+    s[at] as usize
+}
+
+// u(64) at the byte `at`, where all eight bytes are there. In this form, one expression of plain bytes, the compiler makes one load of it.
+pub fn eight_at(s: &[u8], at: usize) -> usize
+    requires { ⌜ at + 8 ≤ length (now s) ⌝ }
+    ensures { λ r. ⌜ IsField (now (s .entry)) (8 * at) 64 r ⌝ }
+{
+    let a = byte(s, at);
+    let b = byte(s, at + 1);
+    let c = byte(s, at + 2);
+    let d = byte(s, at + 3);
+    let e = byte(s, at + 4);
+    let f = byte(s, at + 5);
+    let g = byte(s, at + 6);
+    let h = byte(s, at + 7);
+    ((((((a * 256 + b) * 256 + c) * 256 + d) * 256 + e) * 256 + f) * 256 + g) * 256 + h
 }
 
 // u(16) at the byte `at`.

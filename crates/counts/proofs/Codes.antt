@@ -1,21 +1,26 @@
 -- Laws of the variable length code: its 1-bits by windows of any width, and the quantity that they are. Assumes nothing.
 use Prim.Native.Nat.{ℕ, zero, suc, _+_, _-_, _*_, _/_, _%_, _^_, _≤_, _<_, min}
 use mathlib.Core.Path.{_≡_, refl, sym, ap, _∙_}
+use mathlib.Core.Bool.{cond}
 use mathlib.Core.Logic.{_⊎_, inl, inr, ⊎-elim}
 use mathlib.Core.List.{List}
 use native.Mathlib.Omega.{arith}
-use native.Mathlib.Nat.{add-zero, zero-add, suc-add, sub-zero, pow-suc}
+use native.Mathlib.Nat.{add-zero, add-suc, zero-add, suc-add, sub-zero, pow-suc, mul-assoc, zero-mul, mul-pos}
 use native.Mathlib.Numerals.{add-one}
 use native.Mathlib.Decide.{decLe}
 use borrow.Author.Tests.{lt-ltb, le-ltb, eq-eqb, ne-eqb}
-use lib.Count.{leadingZeros, leading-of-zero, leading-top, leading-length, leading-unique}
+use lib.Count.{leadingZeros, leading-of-zero, leading-le, leading-top, leading-length, leading-unique}
 use lib.Pow.{pow-pos}
+use lib.Dec.{ltb, eqb}
 use lib.IntN.{pos, negℤ, _+ℤ_, _-ℤ_}
 use lib.ListN.{length}
+use mir.Syntax.{w64}
+use mir.Val.{Fits}
 use Rattle.whole.proofs.Linear.{addZ, subZ, eqZ}
 use Rattle.bits.specs.Fields.{bitAt, field, IsField}
-use Rattle.bits.proofs.Laws.{field-lt, field-one, field-past}
+use Rattle.bits.proofs.Laws.{field-lt, field-one, field-past, is-last}
 use Rattle.counts.specs.Codes.{ones, vlc}
+use Rattle.counts.specs.Steps.{Ahead}
 
 -- ---- leading zeros: of a number's half, of 0 alone, and in a wider word
 
@@ -48,6 +53,17 @@ lead-wide : (k w x : ℕ) → w ≤ k → x < 2 ^ w → leadingZeros k x ≡ k -
 lead-wide k w x g h =
     let l = leading-length w x h in
     sym (leading-unique k x (k - w + leadingZeros w x) (l .0) (omega (arith, l .1)) (l .2) (l .3))
+
+-- zeros behind change nothing in front
+lead-shift : (w p y : ℕ) → 0 < y → leadingZeros (w + p) (y * 2 ^ p) ≡ leadingZeros w y
+lead-shift w zero y h = rw (add-zero w) (ap (leadingZeros w) (omega arith))
+lead-shift w (suc p) y h =
+    let half : y * 2 ^ suc p / 2 ≡ y * 2 ^ p = rw (pow-suc, ← mul-assoc) (omega arith) in
+    rw add-suc (lead-half (w + p) (y * 2 ^ suc p) (mul-pos h (pow-pos (suc p))) ∙ ap (leadingZeros (w + p)) half ∙ lead-shift w p y h)
+
+-- as many as a word of 64 bits has at most
+pub zeros-fit : (x : ℕ) → Fits w64 (leadingZeros 64 x)
+zeros-fit x = record { fits = omega (arith, leading-le 64 x) }
 
 -- ---- the 1-bits
 
@@ -153,6 +169,35 @@ module _ (s : List ℕ) where
 pub ones-read : {s : List ℕ} {i w r : ℕ} (k : ℕ) → w ≤ k → IsField s i w r → leadingZeros k (2 ^ w - 1 - r) ≡ k - w + ones s i w
 ones-read {s} {i} {w} k h x = rw (x .value, ones-window s i w) (lead-wide k w _ h (omega (arith, pow-pos w)))
 
+-- a word of 64 bits, turned round and shifted by p, is its last 64 - p bits turned round
+turned-shift : (e : ℕ) → e < 2 ^ 64 → (p : ℕ) → p < 8 → (2 ^ 64 - 1 - e) * 2 ^ p % 2 ^ 64 ≡ (2 ^ (64 - p) - 1 - e % 2 ^ (64 - p)) * 2 ^ p
+turned-shift e h zero l = omega arith
+turned-shift e h (suc zero) l = omega arith
+turned-shift e h (suc (suc zero)) l = omega arith
+turned-shift e h (suc (suc (suc zero))) l = omega arith
+turned-shift e h (suc (suc (suc (suc zero)))) l = omega arith
+turned-shift e h (suc (suc (suc (suc (suc zero))))) l = omega arith
+turned-shift e h (suc (suc (suc (suc (suc (suc zero)))))) l = omega arith
+turned-shift e h (suc (suc (suc (suc (suc (suc (suc zero))))))) l = omega arith
+turned-shift e h (suc (suc (suc (suc (suc (suc (suc (suc p)))))))) l = absurd (omega arith)
+
+-- and so of the window behind the word's first p bits, shifted to its top
+pub ones-shifted : {s : List ℕ} {at e : ℕ} (i p : ℕ) → IsField s at 64 e → (at + p ≡ i) × (p < 8) → Ahead s i (leadingZeros 64 ((2 ^ 64 - 1 - e) * 2 ^ p % 2 ^ 64))
+ones-shifted {s} {at} {e} i p x h =
+    let w = 64 - p in
+    let rest = is-last {j = i} {n = w} p x (omega arith) (omega arith) in
+    record {
+      most = leading-le 64 _;
+      ended = rw (turned-shift e (x .below) p (h .1), rest .value) (ended w (omega arith) (omega arith) _ (ones-window s i w));
+    }
+  where
+    ended : (w : ℕ) → w + p ≡ 64 → 57 ≤ w → (y : ℕ) → ones s i w ≡ leadingZeros w y
+        → (limit : ℕ) → leadingZeros 64 (y * 2 ^ p) < 57 → leadingZeros 64 (y * 2 ^ p) < limit → leadingZeros 64 (y * 2 ^ p) ≡ ones s i limit
+    ended w q h zero e limit l k = absurd (omega (arith, l, ap (leadingZeros 64) (zero-mul (2 ^ p)) ∙ leading-of-zero 64))
+    ended w q h (suc y) e limit l k =
+        let r : leadingZeros 64 (suc y * 2 ^ p) ≡ ones s i w = rw q at (lead-shift w p (suc y) (omega arith)) ∙ sym e in
+        omega (arith, r, ones-cap s i w limit (λ f. absurd (omega (arith, r))))
+
 -- ---- the quantity
 
 -- a natural less one that is not greater, as whole numbers
@@ -193,6 +238,23 @@ module _ (r t n : ℕ) where
       by (no k) o = (r + (n - (r - t)), vlc-unary (omega arith), omega arith)
       by (yes k) (yes o) = (r - (n + 1) / 2, vlc-odd k (omega arith), omega arith)
       by (yes k) (no o) = (r + n / 2, vlc-even k (λ e. omega arith), omega arith)
+
+-- the three ways, each raised by 2^32, and the one that is chosen
+pub moved-by : (r t n : ℕ) {l down up far near x : ℕ} → near ≡ cond (eqb (n % 2) 1) down up → x ≡ cond (ltb l n) far near
+    → (l ≡ 2 * (r - t)) × (down ≡ r + 2 ^ 32 - (n + 1) / 2) × (up ≡ r + 2 ^ 32 + n / 2) × (far ≡ r + 2 ^ 32 + n - (r - t))
+    → (m : ℕ) × (x ≡ m + 2 ^ 32) × (pos m ≡ pos r +ℤ vlc r t n)
+moved-by r t n {l} {down} {up} {far} {near} {x} e f h = by (decLe n l) (decLe 1 (n % 2))
+  where
+    by : Dec (n ≤ l) → Dec (1 ≤ n % 2) → (m : ℕ) × (x ≡ m + 2 ^ 32) × (pos m ≡ pos r +ℤ vlc r t n)
+    by (no a) o =
+        let g : x ≡ far = rw (lt-ltb l n (omega arith)) at f in
+        (r + (n - (r - t)), omega arith, sym (vlc-unary r t n (omega arith)))
+    by (yes a) (yes o) =
+        let g : x ≡ down = rw (le-ltb l n a) at f ∙ rw (eq-eqb (n % 2) 1 (omega arith)) at e in
+        (r - (n + 1) / 2, omega arith, sym (vlc-odd r t n (omega arith) (omega arith)))
+    by (yes a) (no o) =
+        let g : x ≡ up = rw (le-ltb l n a) at f ∙ rw (ne-eqb (n % 2) 1 (λ z. omega arith)) at e in
+        (r + n / 2, omega arith, sym (vlc-even r t n (omega arith) (λ z. omega arith)))
 
 -- m + (t − m)
 pub to-t : (m t : ℕ) → pos m +ℤ (pos t -ℤ pos m) ≡ pos t

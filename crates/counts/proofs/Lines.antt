@@ -1,9 +1,10 @@
 -- Laws of a line of counts. Assumes nothing.
 use Prim.Native.Nat.{ℕ, _+_, _*_, _/_, _%_, _^_, _≤_, _<_, max}
 use mathlib.Core.Path.{_≡_, refl, sym, ap, _∙_}
-use mathlib.Core.Bool.{Bool, true, false, cond}
+use mathlib.Core.Bool.{Bool, true, false, cond, true≢false}
 use mathlib.Core.List.{List}
 use native.Mathlib.Omega.{arith}
+use native.Mathlib.Nat.{add-zero}
 use borrow.Author.Tests.{leb-true, leb-false}
 use lib.Dec.{leb}
 use lib.IntN.{ℤ, pos, _+ℤ_, _-ℤ_}
@@ -15,9 +16,10 @@ use Rattle.whole.specs.Cells.{cell}
 use Rattle.whole.proofs.Machine.{back64}
 use Rattle.loops.specs.Run.{go}
 use Rattle.counts.specs.Codes.{ones}
-use Rattle.counts.specs.Groups.{counted, coded, unpackVertical}
+use Rattle.counts.specs.Groups.{counted, coded, unpackRaw, unpackNopred, unpackVertical}
 use Rattle.bits.specs.Groups.{Ncg, nibblesOf, packed, held, heldM, heldT}
 use Rattle.counts.specs.Lines.{unpack, stored, turn, countCell, insignificant, aboveCell, above, Ready}
+use Rattle.counts.specs.Steps.{isRaw, lookedAt}
 use Rattle.counts.specs.declared.group.Coding.{Coding}
 use Rattle.counts.specs.declared.group.Mode.{Mode}
 use Rattle.counts.specs.declared.group.Mode.the-variants.{Raw, NoPrediction, Vertical}
@@ -70,17 +72,37 @@ unpack-sound s i Vertical sig c p z g cells =
     let m = skipped (c .run) mtop (c .t) in
     cond-by (Sound s (c .br) i) (insignificant sig c z g) (λ e. counted-sound s (c .br) i (m .0) _ (m .1) (omega arith) (omega arith)) (λ e. coded-sound s (c .br) i mtop (c .t) (omega arith))
 
--- ---- vertical prediction, as the code reads the cell above
-module _ (s sig : List ℕ) (c : Coding) (p : Place) (z g i : ℕ) (cells : List ℤ) {r : Group} {skip : Bool} {j h : ℕ} where
-  pub vertical-is : c .mode ≡ Vertical → skip ≡ insignificant sig c z g → j ≡ aboveCell p g
-      → mag (cell cells j) < 2 ^ 63 → h ≡ held (toZ w64 (ofZ w64 (cell cells j)))
-      → r ≡ unpackVertical s c skip (h % 32) (h / 32 % 32) i → r ≡ unpack (c .mode) s sig c p z g i cells
+-- ---- one way for both predictions
+
+-- below a group with M = 0 and truncation position 0
+none-is-vertical : (s : List ℕ) (c : Coding) (skip : Bool) (i : ℕ) → unpackNopred s c skip i ≡ unpackVertical s c skip 0 0 i
+none-is-vertical s c skip i =
+    let top : max 0 (max (c .t) 0) ≡ c .t = omega arith in
+    rw top (ap (λ (z : ℤ). cond skip (counted z i) (coded s (c .br) (c .t) (c .t) i)) (stay (c .run)))
+  where
+    stay : (run : Bool) → pos (c .t) +ℤ pos 0 ≡ pos (c .t) +ℤ cond run (pos (c .t) -ℤ pos (c .t)) (pos 0)
+    stay true = rw (to-t (c .t) (c .t), add-zero)
+    stay false = refl
+
+module _ (s sig : List ℕ) (c : Coding) (p : Place) (z g i : ℕ) (cells : List ℤ) where
+  pub raw-is : (m : Mode) → isRaw m ≡ true → unpackRaw s (c .br) i ≡ unpack m s sig c p z g i cells
   unfolding unpack
-  vertical-is v k e b f q =
-      let same : h ≡ held (above p g cells) = f ∙ ap held (back64 (cell cells j) b) ∙ ap (λ (j : ℕ). held (cell cells j)) e in
-      rw v
-      (q ∙ ap (λ (h : ℕ). unpackVertical s c skip (h % 32) (h / 32 % 32) i) same
-      ∙ ap (λ (b : Bool). unpackVertical s c b (heldM (above p g cells)) (heldT (above p g cells)) i) k)
+  raw-is Raw e = refl
+  raw-is NoPrediction e = absurd (true≢false (sym e))
+  raw-is Vertical e = absurd (true≢false (sym e))
+
+  pub below-is : (m : Mode) {r : Group} {skip : Bool} {h : ℕ} → isRaw m ≡ false → h ≡ held (lookedAt m p g cells) → skip ≡ insignificant sig c z g
+      → r ≡ unpackVertical s c skip (h % 32) (h / 32 % 32) i → r ≡ unpack m s sig c p z g i cells
+  unfolding unpack lookedAt
+  below-is Raw e f k q = absurd (true≢false e)
+  below-is NoPrediction e f k q = rw (f, k) at q ∙ sym (none-is-vertical s c (insignificant sig c z g) i)
+  below-is Vertical e f k q = rw (f, k) at q
+
+-- the cell above, as the code reads it
+pub looked-above : (m : Mode) (p : Place) (g : ℕ) (cells : List ℤ) {j h : ℕ} → m ≡ Vertical → j ≡ aboveCell p g → mag (cell cells j) < 2 ^ 63
+    → h ≡ held (toZ w64 (ofZ w64 (cell cells j))) → h ≡ held (lookedAt m p g cells)
+unfolding lookedAt
+looked-above m p g cells {j} v e b f = rw v (f ∙ ap held (back64 (cell cells j) b) ∙ ap (λ (j : ℕ). held (cell cells j)) e)
 
 -- ---- a turn, by the group that was read
 module _ (s sig : List ℕ) (c : Coding) (p : Place) (z g i : ℕ) (cells : List ℤ) {x : Group} (e : x ≡ unpack (c .mode) s sig c p z g i cells) where

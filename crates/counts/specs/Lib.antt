@@ -2,3 +2,4 @@
 pub mod Codes
 pub mod Groups
 pub mod Lines
+pub mod Steps

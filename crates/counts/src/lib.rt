@@ -10,7 +10,9 @@ ghost use mathlib.Core.Path.{_≡_};
 ghost use Prim.Native.Nat.{_+_, _*_, _/_, _%_, _^_, _≤_, _<_};
 ghost use lib.ListN.{length};
 ghost use Rattle.bits.specs.Groups.{Ncg, held, packed, Takes};
+ghost use Rattle.counts.specs.declared.group.Mode.the-variants.{Vertical};
 ghost use Rattle.counts.specs.Lines.{countCell, insignificant, unpack, lineCounts, Ready};
+ghost use Rattle.counts.specs.Steps.{isRaw, lookedAt};
 
 // Where the cells of a line lie: coefficient x at `first` + x `stride`, for x below `width`, its count `area` cells behind it, and the
 // same coefficient one line up `up` cells before it.
@@ -81,7 +83,30 @@ fn is_insignificant(sig: &[u8], c: Coding, z: usize, g: usize) -> bool
     }
 }
 
-// The count of the code group g, at the bit i of its stretch. The cell of the line above is read where it predicts.
+// Are the counts coded raw?
+fn is_raw(mode: Mode) -> bool
+    ensures { λ r. ⌜ r ≡ isRaw mode ⌝ }
+{
+    match mode {
+        Mode::Raw => true,
+        Mode::NoPrediction => false,
+        Mode::Vertical => false,
+    }
+}
+
+// What the cell that predicts the code group g holds: that of the line above, or, where nothing predicts, 0.
+fn looked_at(cells: &[i64], mode: Mode, p: Place, g: usize) -> usize
+    requires { ⌜ (countCell p g < length (now cells)) × (g < 2 ^ 60) × (mode ≡ Vertical → p .up ≤ p .first) ⌝ }
+    ensures { λ r. ⌜ r ≡ held (lookedAt mode p g (now (cells .entry))) ⌝ }
+{
+    match mode {
+        Mode::Raw => 0,
+        Mode::NoPrediction => 0,
+        Mode::Vertical => held(cells[count_cell(p, g) - p.up]),
+    }
+}
+
+// The count of the code group g, at the bit i of its stretch. One way serves for both predictions, so that no branch guesses between them.
 fn group_at(
     stretch: &[u8],
     sig: &[u8],
@@ -96,21 +121,18 @@ fn group_at(
     ensures { λ r. ⌜ r ≡ unpack (c .mode) (now (stretch .entry)) (now (sig .entry)) c p z g i (now (cells .entry)) ⌝ }
 {
     let mode = c.mode;
-    match mode {
-        Mode::Raw => unpack::read_raw(stretch, c.br, i),
-        Mode::NoPrediction => unpack::read_nopred(stretch, c, is_insignificant(sig, c, z, g), i),
-        Mode::Vertical => {
-            let above = held(cells[count_cell(p, g) - p.up]);
-            unpack::read_vertical(
-                stretch,
-                c,
-                is_insignificant(sig, c, z, g),
-                above % 32,
-                above / 32 % 32,
-                i,
-            )
-        }
+    if is_raw(mode) {
+        return unpack::read_raw(stretch, c.br, i);
     }
+    let above = looked_at(cells, mode, p, g);
+    unpack::read_vertical(
+        stretch,
+        c,
+        is_insignificant(sig, c, z, g),
+        above % 32,
+        above / 32 % 32,
+        i,
+    )
 }
 
 // The counts of a line, from the bit `at` of their stretch on; the line's significance flags stand in `sig` from the bit `sig_at` on.

@@ -2,10 +2,10 @@
 use crate::group::Coding;
 use crate::group::Group;
 ghost use mathlib.Core.Path.{_≡_};
-ghost use Prim.Native.Nat.{_+_, _*_, _^_, _≤_, _<_, max};
+ghost use Prim.Native.Nat.{_+_, _*_, _/_, _^_, _≤_, _<_, max};
 ghost use lib.IntN.{pos};
 ghost use lib.ListN.{length};
-ghost use Rattle.counts.specs.Groups.{counted, coded, unpackRaw, unpackNopred, unpackVertical, Limit};
+ghost use Rattle.counts.specs.Groups.{counted, coded, unpackRaw, unpackVertical, Limit};
 
 // A count m, if it is one.
 fn in_range(m: usize, next: usize) -> Group
@@ -26,8 +26,8 @@ fn too_many(br: usize) -> usize
     1 << (br + 1)
 }
 
-// The predictor mtop, moved by the code at the bit i.
-fn read_code(s: &[u8], br: usize, mtop: usize, t: usize, i: usize) -> Group
+// The predictor mtop, moved by the code at the bit i, byte after byte.
+fn walk_code(s: &[u8], br: usize, mtop: usize, t: usize, i: usize) -> Group
     requires { ⌜ (length (now s) < 2 ^ 56) × (br ≤ 5) × (mtop ≤ 31) ⌝ }
     ensures { λ r. ⌜ r ≡ coded (now (s .entry)) br mtop t i ⌝ }
 {
@@ -46,6 +46,32 @@ fn read_code(s: &[u8], br: usize, mtop: usize, t: usize, i: usize) -> Group
     in_range(crate::code::moved(mtop, t, n), i + n + 1)
 }
 
+// The same where the eight bytes from that of bit i on are there. If they hold the whole code, as they nearly always do, no end cuts it.
+fn code_ahead(s: &[u8], br: usize, mtop: usize, t: usize, i: usize) -> Group
+    requires { ⌜ (length (now s) < 2 ^ 56) × (br ≤ 5) × (mtop ≤ 31) × (i / 8 + 8 ≤ length (now s)) ⌝ }
+    ensures { λ r. ⌜ r ≡ coded (now (s .entry)) br mtop t i ⌝ }
+{
+    let limit = too_many(br);
+    let n = crate::code::ones_ahead(s, i);
+    let short = (n < limit) & (n < 32);
+    if short {
+        return in_range(crate::code::moved(mtop, t, n), i + n + 1);
+    }
+    walk_code(s, br, mtop, t, i)
+}
+
+// The predictor mtop, moved by the code at the bit i.
+fn read_code(s: &[u8], br: usize, mtop: usize, t: usize, i: usize) -> Group
+    requires { ⌜ (length (now s) < 2 ^ 56) × (br ≤ 5) × (mtop ≤ 31) ⌝ }
+    ensures { λ r. ⌜ r ≡ coded (now (s .entry)) br mtop t i ⌝ }
+{
+    if i / 8 + 8 <= s.len() {
+        code_ahead(s, br, mtop, t, i)
+    } else {
+        walk_code(s, br, mtop, t, i)
+    }
+}
+
 // Table C.14.
 pub fn read_raw(s: &[u8], br: usize, i: usize) -> Group
     requires { ⌜ (length (now s) < 2 ^ 56) × (br ≤ 5) ⌝ }
@@ -59,18 +85,6 @@ pub fn read_raw(s: &[u8], br: usize, i: usize) -> Group
         return Group::Cut;
     }
     in_range(bits::field(s, i, br), i + br)
-}
-
-// Table C.16.
-pub fn read_nopred(s: &[u8], c: Coding, insignificant: bool, i: usize) -> Group
-    requires { ⌜ (length (now s) < 2 ^ 56) × (c .br ≤ 5) × (c .t ≤ 31) ⌝ }
-    ensures { λ r. ⌜ r ≡ unpackNopred (now (s .entry)) c insignificant i ⌝ }
-{
-    if insignificant {
-        in_range(c.t, i)
-    } else {
-        read_code(s, c.br, c.t, c.t, i)
-    }
 }
 
 // The larger of two numbers.

@@ -1,15 +1,16 @@
 -- Slots: what the number of a slot says. Assumes nothing.
 use mathlib.Core.Path.{_≡_, ap, _∙_}
 use Prim.Native.Nat.{ℕ, zero, suc, _+_, _*_, _-_, _/_, _%_, _^_, _≤_, _<_}
-use native.Mathlib.Nat.{div-eq-of-lt, div-lt-iff-lt-mul, mod-lt, mul-le-mul}
+use native.Mathlib.Nat.{div-eq-of-lt, div-lt-iff-lt-mul, div-add-mod, mod-lt, mul-add, mul-one, mul-le-mul, mul-le-mul-left}
 use native.Mathlib.Decide.{decLt}
 use native.Mathlib.Omega.{arith}
 use borrow.Author.Tests.{ne-eqb}
 use lib.Pow.{pow-pos, pow-mono}
 use Rattle.layout.specs.declared.Shape.{Shape}
-use Rattle.layout.specs.Bands.{Nβ, β₁, dy, first-types, down-of}
+use Rattle.layout.specs.Bands.{Nβ, NL, β₁, dy, first-types, down-of}
 use Rattle.layout.specs.Built.{Built}
 use Rattle.layout.specs.Slots.{slots, level-group, turn-of, slot-type, slot-types, slot-line, candidates}
+use Rattle.layout.specs.Sizes.{candidate-band}
 use Rattle.layout.proofs.Filters.{first-is, filters-is, type-both}
 
 -- 2^g + l, for l below 2^g and g below NLy
@@ -114,3 +115,12 @@ module _ (s : Shape) (built : Built s) where
         by : Dec (0 < k) → (slot-type s k + j / s .nc < Nβ s) × (slot-line k < 4) × (slot-line k < 2 ^ (s .nly - dy s (slot-type s k + j / s .nc)))
         by (yes u) = later (λ e. omega arith)
         by (no n) = zeroth (omega arith)
+
+    -- and it is of a band that there is: the bands of a slot's candidates follow one another
+    pub band-is : s .nc * slot-type s k + j ≡ candidate-band s k j
+    band-is = omega (arith, mul-add (s .nc) (slot-type s k) (j / s .nc), div-add-mod j (s .nc))
+
+    pub band-there : candidate-band s k j < NL s
+    band-there =
+        let β = slot-type s k + j / s .nc in
+        omega (arith, mul-le-mul-left (s .nc) (slot-fits .0), mul-add (s .nc) β 1, mul-one (s .nc), mod-lt j (built .some))

@@ -1,7 +1,9 @@
 -- The part of Annex C that counts bands: the precinct header (Table C.1) and the truncation position (Table C.12).
 use mathlib.Core.Bool.{cond}
+use mathlib.Core.List.{List}
 use Prim.Native.Nat.{ℕ, zero, suc, _+_, _*_, _-_, _^_, min}
 use lib.Dec.{ltb}
+use Rattle.whole.specs.Cells.{listed}
 use Rattle.whole.specs.Numbers.{ceilDiv}
 use Rattle.layout.specs.declared.Shape.{Shape}
 use Rattle.layout.specs.Bands.{NL, band-exists}
@@ -14,6 +16,10 @@ modes s (suc b) = modes s b + cond (band-exists s b) 1 0
 -- Table C.1: Lprc[p] u(24), Q[p] u(8) and R[p] u(8) stand before the fields D[p,b] u(2); the first bit of D[p,b]
 abbrev pub mode-bit : Shape → ℕ → ℕ
 mode-bit s b = 24 + 8 + 8 + 2 * modes s b
+
+-- the first bits of all D[p,b], for up to 40 bands; in the places of bands that there are not, the bit behind the last D
+abbrev pub mode-bits : Shape → List ℕ
+mode-bits s = listed 40 (λ b. mode-bit s (min b (NL s)))
 
 -- Table C.1: the bytes of the header, with its padding
 abbrev pub header-bytes : Shape → ℕ

@@ -1,6 +1,6 @@
 -- The answers of the functions that others build on, as the definitions have them, and beside them their ranges, for the sums of the callers.
 use mathlib.Core.Path.{_≡_}
-use mathlib.Core.Bool.{_&&_}
+use mathlib.Core.Bool.{cond, _&&_}
 use Prim.Native.Nat.{ℕ, _+_, _*_, _-_, _/_, _%_, _^_, _≤_, _<_}
 use lib.Dec.{eqb, ltb}
 use Rattle.whole.specs.Numbers.{ceilDiv}
@@ -15,7 +15,7 @@ use Rattle.layout.specs.declared.precincts.Column.{Column}
 use Rattle.layout.specs.declared.lines.Reach.{Reach}
 use Rattle.layout.specs.declared.lines.Span.{Span}
 use Rattle.layout.specs.declared.lines.Slot.{Slot}
-use Rattle.layout.specs.Bands.{sx, sy, Wc, Hc, N′y, letters-of, across-of, down-of, kind, dx, depth, exists}
+use Rattle.layout.specs.Bands.{sx, sy, Wc, Hc, N′y, NL, band, band-exists, letters-of, across-of, down-of, kind, dx, depth, exists}
 use Rattle.layout.specs.Precincts.{Cs, Wp, largest, by-letter}
 use Rattle.layout.specs.Slots.{slot-type, slot-types, slot-line}
 
@@ -117,3 +117,11 @@ pub record IsSpan (b : Band) (c : Column) (r : Span) : Type 0 where
 
 abbrev pub slot-of : Shape → ℕ → Slot
 slot-of s k = record { first = slot-type s k; types = slot-types s k; line = slot-line k }
+
+-- the band of candidate j of slot k
+abbrev pub candidate-band : Shape → ℕ → ℕ → ℕ
+candidate-band s k j = band s (slot-type s k + j / s .nc) (j % s .nc)
+
+-- the bits of band b's field D in a precinct header, which a band that does not exist, or that there is not, does not have
+abbrev pub mode-width : Shape → ℕ → ℕ
+mode-width s b = cond (ltb b (NL s)) (2 * cond (band-exists s b) 1 0) 0

@@ -20,7 +20,7 @@ ghost use Rattle.layout.specs.Built.{Built};
 ghost use Rattle.layout.specs.Precincts.{Npx, Npy, lines};
 ghost use Rattle.layout.specs.Cells.{area, samples};
 ghost use Rattle.layout.specs.Slots.{slots, candidates, line, line-at};
-ghost use Rattle.layout.specs.Sizes.{SmallBand, inner-of, IsReach, IsSpan, slot-of};
+ghost use Rattle.layout.specs.Sizes.{SmallBand, inner-of, IsReach, IsSpan, slot-of, candidate-band};
 
 // A line's row in its band, and whether the precinct has it.
 pub struct Reach {
@@ -137,6 +137,15 @@ pub fn candidate_count(s: Shape, k: usize) -> usize
 {
     let slot = slot_of(s, k);
     slot.types * s.nc
+}
+
+// The band of candidate j of slot k, without the rest of its line.
+pub fn candidate_band(s: Shape, k: usize, j: usize) -> usize
+    requires { ⌜ Built s × (k < slots s) × (j < candidates s k) ⌝ }
+    ensures { λ r. ⌜ (r ≡ candidate-band s k j) × (r < NL s) ⌝ }
+{
+    let slot = slot_of(s, k);
+    s.nc * slot.first + j
 }
 
 // Line l of a band in a precinct.

@@ -41,6 +41,8 @@ setting =
       rl = false;
       gains = [];
       priorities = [];
+      modes = [];
+      head = 6;
     }
 
 -- its header is 6 bytes: Lprc is 8, Q, R and both D are 0

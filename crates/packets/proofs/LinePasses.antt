@@ -92,8 +92,13 @@ module _ (s : List ℕ) (c : Setting) (p : Precinct) where
   pub flags-there : (l : Line) {raw : Bool} {d : ℕ} → l .present ≡ true → raw ≡ false → d ≡ D s c p (l .band) → d / 2 ≡ 1 → l .marks ≡ flags s c p raw l
   flags-there l h f e g = rw (h, f, ← e, eq-eqb _ 1 g)
 
-  pub flags-plain : (l : Line) {raw : Bool} {d : ℕ} → l .present ≡ true → raw ≡ false → d ≡ D s c p (l .band) → (d / 2 ≡ 1 → ⊥) → 0 ≡ flags s c p raw l
-  flags-plain l h f e g = rw (h, f, ← e, ne-eqb _ 1 g)
+  plain-none : (a raw : Bool) (m : ℕ) → cond (a && not raw && false) m 0 ≡ 0
+  plain-none true true m = refl
+  plain-none true false m = refl
+  plain-none false raw m = refl
+
+  pub flags-plain : (l : Line) (raw : Bool) {d : ℕ} → d ≡ D s c p (l .band) → (d / 2 ≡ 1 → ⊥) → 0 ≡ flags s c p raw l
+  flags-plain l raw e g = rw (← e, ne-eqb _ 1 g) (sym (plain-none (l .present) raw (l .marks)))
 
   module _ (slot : ℕ) (raw : Bool) where
     pub marks-none : 0 ≡ marks s c p slot raw 0

@@ -7,6 +7,7 @@ use lib.ListN.{length, getD}
 use Rattle.bits.specs.Packet.{Fit}
 use Rattle.layout.specs.Bands.{NL, band-exists}
 use Rattle.layout.specs.Built.{Built}
+use Rattle.layout.specs.Headers.{mode-bits, header-bytes}
 use Rattle.layout.specs.Precincts.{Npx, Npy}
 use Rattle.layout.specs.Cells.{start}
 use Rattle.layout.specs.Slots.{slots}
@@ -14,13 +15,15 @@ use Rattle.packets.specs.declared.Setting.{Setting}
 use Rattle.packets.specs.declared.Precinct.{Precinct}
 use Rattle.packets.specs.Precincts.{D}
 
--- gains are 0 to 15
+-- gains are 0 to 15; what is worked out once for a page is what the shape makes it
 pub record Settled (c : Setting) : Type 0 where
   pub shape : Built (c .shape)
   pub widths : Fit (c .widths)
   pub br : c .br ≤ 5
   pub fq : c .fq ≤ 15
   pub gains : (b : ℕ) → getD (c .gains) b 0 ≤ 15
+  pub modes : c .modes ≡ mode-bits (c .shape)
+  pub head : c .head ≡ header-bytes (c .shape)
 
 -- `cells` is the number of work cells that are lent. Vertical prediction has a line above: row 8 refuses it in the top row of a slice
 pub record Standing (s : List ℕ) (c : Setting) (p : Precinct) (cells : ℕ) : Type 0 where

@@ -11,8 +11,9 @@ pub(crate) fn mode_of(s: &[u8], c: Setting, p: Precinct, b: usize) -> usize
     requires { ⌜ Settled c × (p .at < 2 ^ 32) × (b < NL (c .shape)) ⌝ }
     ensures { λ r. ⌜ IsMode (now (s .entry)) c p b r ⌝ }
 {
-    let shape = c.shape;
-    bits::field(s, 8 * p.at + layout::headers::bit_of_mode(shape, b), 2)
+    let modes = c.modes;
+    let bit = modes[b] as usize;
+    bits::field(s, 8 * p.at + bit, 2)
 }
 
 // T[p,b].

@@ -45,7 +45,8 @@ ghost use Rattle.packets.specs.Steps.{
 };
 
 // What Annex C needs of the headers: Annex B's shape, the widths of a packet header, Br, Fq, whether Qpih selects the uniform quantiser, whether Fs, Rm
-// and Rl are 1, and gain and priority of each band.
+// and Rl are 1, and gain and priority of each band. The rest follows from the shape and is worked out once for a page, since every line asks for it: the first
+// bit of each band's D in a precinct header, and the bytes of that header.
 pub struct Setting {
     pub shape: Shape,
     pub widths: Widths,
@@ -57,6 +58,8 @@ pub struct Setting {
     pub rl: bool,
     pub gains: [u8; 40],
     pub priorities: [u8; 40],
+    pub modes: [u8; 40],
+    pub head: usize,
 }
 
 // A precinct whose header is accepted: its row and column, the place of its header and the one past its last byte, Q[p] and R[p].

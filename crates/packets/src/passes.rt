@@ -15,6 +15,7 @@ ghost use lib.ListN.{length};
 ghost use Rattle.layout.specs.Bands.{NL};
 ghost use Rattle.layout.specs.Cells.{start};
 ghost use Rattle.layout.specs.Slots.{candidates};
+ghost use Rattle.values.specs.Lanes.{IsPairs};
 ghost use Rattle.packets.specs.Passes.{line, modeOf, codingOf, packetCounts, packetValues};
 ghost use Rattle.packets.specs.Packets.{anyLine};
 ghost use Rattle.packets.specs.Ready.{Settled, Standing, Slotted};
@@ -63,6 +64,22 @@ fn marks_of(s: &[u8], c: Setting, p: Precinct, l: Line, raw: bool) -> usize
     0
 }
 
+// The significance flags of candidate j. Most packets have none, so that its line is only worked out where its band has some.
+fn marks_at(s: &[u8], c: Setting, p: Precinct, slot: usize, j: usize, raw: bool) -> usize
+    requires { ⌜ Within (now s) c p slot × (j < candidates (c .shape) slot) ⌝ }
+    ensures { λ r. ⌜ IsMarks (now (s .entry)) c p raw (line c p slot j) r ⌝ }
+{
+    if raw {
+        return 0;
+    }
+    let shape = c.shape;
+    let b = layout::lines::candidate_band(shape, slot, j);
+    if mode_of(s, c, p, b) / 2 == 1 {
+        return marks_of(s, c, p, candidate(c, p, slot, j), raw);
+    }
+    0
+}
+
 // The significance flags of all lines.
 pub(crate) fn all_marks(s: &[u8], c: Setting, p: Precinct, slot: usize, raw: bool) -> usize
     requires { ⌜ Within (now s) c p slot ⌝ }
@@ -73,7 +90,7 @@ pub(crate) fn all_marks(s: &[u8], c: Setting, p: Precinct, slot: usize, raw: boo
     let mut sum: usize = 0;
     let mut j: usize = 0;
     while j < n {
-        sum += marks_of(s, c, p, candidate(c, p, slot, j), raw);
+        sum += marks_at(s, c, p, slot, j, raw);
         j += 1;
     }
     sum
@@ -186,6 +203,7 @@ pub(crate) fn packet_counts(
 
 // The values of a line.
 fn value_line(
+    pairs: &[usize; 256],
     dat: &[u8],
     sgn: &[u8],
     cells: &mut [i64],
@@ -194,7 +212,7 @@ fn value_line(
     l: Line,
     from: Next,
 ) -> Next
-    requires { ⌜ Settled c × (l .present ≡ true → Lies (c .shape) (p .row) l) × (start (c .shape) (c .shape .nc) ≤ length (now cells)) × (from .at < 2 ^ 62) × (from .sign < 2 ^ 62) ⌝ }
+    requires { ⌜ Settled c × (l .present ≡ true → Lies (c .shape) (p .row) l) × (start (c .shape) (c .shape .nc) ≤ length (now cells)) × (from .at < 2 ^ 62) × (from .sign < 2 ^ 62) × IsPairs (now pairs) ⌝ }
     ensures { λ r. ⌜ valueLine c p (now (dat .entry)) (now (sgn .entry)) l from (now (cells .entry)) ≡ (r, now (cells .exit)) ⌝ }
 {
     if l.present {
@@ -210,7 +228,7 @@ fn value_line(
             area: l.area,
             t: truncation_of(c, p, l.band),
         };
-        return values::line_values(dat, sgn, cells, how, line, from);
+        return values::line_values(pairs, dat, sgn, cells, how, line, from);
     }
     from
 }
@@ -229,11 +247,12 @@ pub(crate) fn packet_values(
 {
     let shape = c.shape;
     let n = layout::lines::candidate_count(shape, slot);
+    let pairs = values::pairs::table();
     let mut next = Next { at: 0, sign: 0 };
     let mut j: usize = 0;
     while j < n {
         let l = candidate(c, p, slot, j);
-        next = value_line(dat, sgn, cells, c, p, l, next);
+        next = value_line(&pairs, dat, sgn, cells, c, p, l, next);
         j += 1;
     }
     next

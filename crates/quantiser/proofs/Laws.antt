@@ -1,9 +1,11 @@
 -- The laws of the quantisers over whole numbers, for either quantiser, every M and every T. Assumes nothing.
 use mathlib.Core.Path.{_≡_, refl, sym, ap, _∙_}
-use mathlib.Core.Bool.{Bool}
-use Prim.Native.Nat.{ℕ, suc, _+_, _-_, _*_, _/_, _^_, _≤_, _<_, max}
-use native.Mathlib.Nat.{lt-of-lt-of-le, zero-mul, mul-le-mul-right, zero-div, mul-div-cancel}
+use mathlib.Core.Bool.{Bool, true, false, _&&_}
+use Prim.Native.Nat.{ℕ, zero, suc, _+_, _-_, _*_, _/_, _^_, _≤_, _<_, max}
+use native.Mathlib.Nat.{lt-of-lt-of-le, zero-mul, mul-le-mul-right, zero-div, mul-div-cancel, sub-zero}
 use native.Mathlib.Omega.{arith}
+use borrow.Author.Tests.{lt-ltb}
+use lib.Dec.{ltb}
 use lib.IntN.{ℤ, pos, negsuc, negℤ, natAbs, _*ℤ_}
 use lib.Pow.{pow-pos, pow-mono, shl-lt, ones-lt}
 use Rattle.whole.specs.Numbers.{Within, bySize, signed}
@@ -71,6 +73,12 @@ module _ (q : Bool) (M : ℕ) where
   pub both-exact : (c : ℤ) → natAbs c < 2 ^ M → coefficientOf q M 0 (indexOf q M 0 c) ≡ c
   both-exact c h = ap (coefficientOf q M 0) (index-exact c h) ∙ coefficient-exact c h
 
+-- and so either quantiser is as good there
+pub either-exact : (q : Bool) (M T : ℕ) (i : ℤ) → natAbs i < 2 ^ (M - T) → coefficientOf (q && ltb 0 T) M T i ≡ coefficientOf q M T i
+either-exact q M zero i h = let l = rw sub-zero at h in coefficient-exact (q && false) M i l ∙ sym (coefficient-exact q M i l)
+either-exact true M (suc T) i h = rw (lt-ltb 0 (suc T) (omega arith))
+either-exact false M (suc T) i h = refl
+
 -- ---- back and there
 
 -- a rule g that takes back what f makes of a size takes back what f makes of a whole number
@@ -95,6 +103,16 @@ module _ (q : Bool) (M T : ℕ) where
 pub scaled-zero : (Fq : ℕ) → scaled Fq (pos 0) ≡ pos 0
 unfolding scaled
 scaled-zero Fq = ap pos (zero-mul (2 ^ Fq))
+
+-- of a sign bit and a size, whatever the sign bit of 0
+scaled-signed : (Fq : ℕ) (s : Bool) (n : ℕ) → scaled Fq (signed s n) ≡ signed s (n * 2 ^ Fq)
+unfolding scaled
+scaled-signed Fq true zero = rw (zero-mul (2 ^ Fq))
+scaled-signed Fq true (suc n) = refl
+scaled-signed Fq false n = refl
+
+pub coefficient-scaled : (q : Bool) (M T Fq : ℕ) (s : Bool) (v : ℕ) → scaled Fq (coefficientOf q M T (signed s v)) ≡ signed s (inverse q M T v * 2 ^ Fq)
+coefficient-scaled q M T Fq s v = ap (scaled Fq) (coefficient-signed q M T s v) ∙ scaled-signed Fq s (inverse q M T v)
 
 pub scaled-small : (Fq k : ℕ) (c : ℤ) → natAbs c < 2 ^ k → natAbs (scaled Fq c) < 2 ^ (k + Fq)
 unfolding scaled
@@ -125,6 +143,11 @@ module _ (q : Bool) {M T : ℕ} (i : ℤ) (k : Carried M T (natAbs i)) where
 
   pub carried-scaled : {Fq F : ℕ} → Fq ≤ F → natAbs (scaled Fq (coefficientOf q M T i)) < 2 ^ (31 + F)
   carried-scaled {Fq} {F} h = lt-of-lt-of-le (scaled-small Fq 31 (coefficientOf q M T i) carried-small) (pow-mono (omega arith))
+
+-- the size itself, shifted by Fq
+pub carried-shifted : (q : Bool) {M T v : ℕ} {Fq s : ℕ} → Carried M T v → Fq ≤ 15 → s ≡ inverse q M T v → s * 2 ^ Fq < 2 ^ 46
+carried-shifted q {M} {T} {v} {Fq} k h e =
+    lt-of-lt-of-le (shl-lt 31 Fq (rw e (lt-of-lt-of-le (inverse-small q M T v (k .below)) (pow-mono {j = 31} (k .count))))) (pow-mono {i = 31 + Fq} {j = 46} (omega arith))
 
 -- ---- a band's number
 

@@ -29,7 +29,7 @@ fn uniform_size(m: u64, t: u64, v: u64) -> u64
 }
 
 // The size of a coefficient, by the quantiser that the picture header chooses: `uniform` where Qpih is 1.
-fn size_by(uniform: bool, m: u64, t: u64, v: u64) -> u64
+pub fn size_by(uniform: bool, m: u64, t: u64, v: u64) -> u64
     requires { ⌜ Carried m t v ⌝ }
     ensures { λ r. ⌜ r ≡ inverse uniform m t v ⌝ }
 {

@@ -81,6 +81,8 @@ settled {s} {h} o =
       br = br-few r;
       fq = omega (arith, fq-few r);
       gains = r .gains;
+      modes = refl;
+      head = refl;
     }
 
 -- ---- the record's sizes

@@ -9,6 +9,7 @@ use Rattle.rows.specs.declared.Row.the-variants.{Lent}
 use Rattle.rows.specs.declared.Field.the-variants.{Samples, Work}
 use Rattle.bits.specs.Packet.{widthsFor}
 use Rattle.layout.specs.Cells.{samples}
+use Rattle.layout.specs.Headers.{mode-bits, header-bytes}
 use Rattle.header.specs.declared.header.Header.{Header}
 use Rattle.shapes.specs.Shapes.{shapeOf}
 use Rattle.packets.specs.declared.Setting.{Setting}
@@ -27,6 +28,8 @@ settingOf h =
       rl = eqb (h .picture .rl) 1;
       gains = h .gains;
       priorities = h .priorities;
+      modes = mode-bits (shapeOf h);
+      head = header-bytes (shapeOf h);
     }
 
 -- B[i], a component's precision

@@ -1,6 +1,8 @@
 // What Annex C needs of an accepted header.
 use bits::packet::Widths;
 use header::header::Header;
+use layout::headers::bits_of_modes;
+use layout::headers::bytes_of_header;
 use packets::Setting;
 use shapes::shape_of;
 ghost use Rattle.header.specs.Accepted.{Ranges};
@@ -15,8 +17,10 @@ pub fn setting_of(h: Header) -> Setting
     let p = h.picture;
     let gains = h.gains;
     let priorities = h.priorities;
+    let shape = shape_of(h);
+    let modes = bits_of_modes(shape);
     Setting {
-        shape: shape_of(h),
+        shape: shape,
         widths: Widths::of_picture(p.wf, p.nc, p.lh),
         br: p.br,
         fq: p.fq,
@@ -26,5 +30,7 @@ pub fn setting_of(h: Header) -> Setting
         rl: p.rl == 1,
         gains: gains,
         priorities: priorities,
+        modes: modes,
+        head: bytes_of_header(shape),
     }
 }

@@ -21,10 +21,11 @@ use Rattle.layout.specs.declared.Shape.{Shape}
 use Rattle.layout.specs.Bands.{NL, band-exists}
 use Rattle.layout.specs.Headers.{mode-bit, header-bytes}
 use Rattle.layout.specs.Slots.{candidates}
+use Rattle.layout.proofs.Sums.{header-most}
 use Rattle.packets.specs.declared.Setting.{Setting}
 use Rattle.packets.specs.declared.Precinct.{Precinct}
 use Rattle.packets.specs.Precincts.{D, T}
-use Rattle.packets.specs.Ready.{Standing}
+use Rattle.packets.specs.Ready.{Settled, Standing}
 use Rattle.packets.specs.Packets.{anyLine, head, past, packet}
 use Rattle.slices.specs.declared.precincts.Flags.{Flags}
 use Rattle.slices.specs.Precinct.{precinctAt, lprc, fieldChecks, modeChecks, headerChecks, packed, packetTurn, restChecks, packetsBy, precinct, holds, raisedBy, raised}
@@ -87,6 +88,9 @@ module _ {s : List ℕ} {c : Setting} {row column at : ℕ} {p : Precinct} (x : 
 
   pub place-is : p .at ≡ at
   place-is = λ i. x .is i .at
+
+pub head-most : {c : Setting} → Settled c → c .head ≤ 15
+head-most {c} x = omega (arith, x .head, header-most (c .shape) (x .shape))
 
 pub ends-at : {s : List ℕ} {c : Setting} {row column at : ℕ} {p : Precinct} → IsPrecinct s c row column at p → p .end ≡ at + header-bytes (c .shape) + lprc s c row column at
 ends-at x = λ i. x .is i .end

@@ -1,7 +1,6 @@
 // C.2: a precinct, its header and its packets.
 use layout::headers::band_count;
 use layout::headers::band_exists;
-use layout::headers::bytes_of_header;
 use layout::lines::slot_count;
 use layout::precincts::precinct_columns;
 use packets::Precinct;
@@ -53,8 +52,7 @@ fn precinct_at(s: &[u8], c: Setting, row: usize, column: usize, at: usize) -> Pr
     requires { ⌜ Settled c × (length (now s) < 2 ^ 32) × (at ≤ length (now s)) ⌝ }
     ensures { λ r. ⌜ IsPrecinct (now (s .entry)) c row column at r ⌝ }
 {
-    let shape = c.shape;
-    let body = at + bytes_of_header(shape);
+    let body = at + c.head;
     Precinct {
         row: row,
         column: column,

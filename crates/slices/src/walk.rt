@@ -1,6 +1,5 @@
 // The walk by declared lengths: slices whose precincts are stepped over, whatever stands in them.
 use crate::slice_row;
-use layout::headers::bytes_of_header;
 use layout::precincts::precincts_in_slice;
 use packets::Setting;
 use picture::segment::left;
@@ -40,7 +39,7 @@ fn walk_turn(s: &[u8], c: Setting, n: usize, at: usize) -> Walked
     requires { ⌜ Settled c × (length (now s) < 2 ^ 32) × (at ≤ length (now s)) ⌝ }
     ensures { λ r. ⌜ WalkTurned (now (s .entry)) (walkTurn (now (s .entry)) c n at) r ⌝ }
 {
-    let header = bytes_of_header(c.shape);
+    let header = c.head;
     let lprc = bits::u24_at(s, at);
     let size = header + lprc;
     let there = left(s, at);

@@ -2,6 +2,7 @@
 pub mod Planes
 pub mod Places
 pub mod Groups
+pub mod Lanes
 pub mod Lines
 pub mod Laws
 pub mod Examples

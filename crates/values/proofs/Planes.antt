@@ -35,7 +35,7 @@ module _ (dat : List ℕ) where
       rw pow-suc (omega (arith, planes-lt (from + 1) i k, mul-le-mul-right (2 ^ i) b, one-mul (2 ^ i)))
 
   -- the next plane is the lowest
-  planes-more : (from n k : ℕ) → planes dat from (suc n) k ≡ 2 * planes dat from n k + bitAt dat (4 * (from + n) + k)
+  pub planes-more : (from n k : ℕ) → planes dat from (suc n) k ≡ 2 * planes dat from n k + bitAt dat (4 * (from + n) + k)
   unfolding planes
   planes-more from zero k = rw (add-zero from) (omega arith)
   planes-more from (suc i) k =

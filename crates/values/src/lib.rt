@@ -1,4 +1,7 @@
 // One line of one band: from the data and sign subpackets (C.5.4, C.5.5) through the inverse quantiser (Annex D) into the coefficient cells.
+pub mod pairs;
+mod words;
+
 ghost use mathlib.Core.Path.{_≡_};
 ghost use Prim.Native.Nat.{_-_, _≤_, _<_, _^_, min};
 ghost use lib.Dec.{eqb};
@@ -7,6 +10,7 @@ ghost use lib.ListN.{length};
 ghost use Rattle.whole.specs.Numbers.{signed};
 ghost use Rattle.bits.specs.Groups.{Takes};
 ghost use Rattle.values.specs.Line.{Fit, placed, lineValues};
+ghost use Rattle.values.specs.Lanes.{IsPairs, Short};
 ghost use Rattle.values.specs.Steps.{Chosen, CountIs, SignBit, SignBits, Magnitudes, signField, InCells, GroupFit, groupValues, HasGroup, groupOf};
 
 // Where a line stands in the cells, and its precinct's truncation position in its band. Coefficient x has the cell first + x·stride, and the count
@@ -116,9 +120,9 @@ fn sign_bits(v: [usize; 4]) -> usize
     sign_bit(v[0]) + sign_bit(v[1]) + sign_bit(v[2]) + sign_bit(v[3])
 }
 
-// The index of a sign bit and a size.
+// A size with its sign bit: an index, or a coefficient.
 fn signed_index(sign: usize, v: usize) -> i64
-    requires { ⌜ v < 2 ^ 31 ⌝ }
+    requires { ⌜ v < 2 ^ 63 ⌝ }
     ensures { λ r. ⌜ r ≡ signed (eqb sign 1) v ⌝ }
 {
     let size = v as i64;
@@ -205,6 +209,60 @@ fn group_values(
     coded_group(dat, sgn, cells, how, group, next)
 }
 
+// A whole group of at most fourteen planes, whose nibbles are among eight bytes of the data stretch. One without planes takes nothing, and its
+// sizes are 0 like any other's. Where T is 0 either quantiser is exact, and the deadzone one is the quicker.
+fn short_group(
+    pairs: &[usize; 256],
+    dat: &[u8],
+    sgn: &[u8],
+    cells: &mut [i64],
+    how: Coding,
+    group: Group,
+    next: Next,
+) -> Next
+    requires { ⌜ IsPairs (now pairs) × GroupFit how group next (length (now cells)) × Short group next (length (now dat)) ⌝ }
+    ensures { λ r. ⌜ groupValues (now (dat .entry)) (now (sgn .entry)) how group next (now (cells .entry)) ≡ (r, now (cells .exit)) ⌝ }
+{
+    let n = less(group.m, group.t);
+    let f = words::read_group(pairs, dat, sgn, how.fs, n, next.at, next.sign);
+    words::put(
+        cells,
+        how.uniform & (0 < group.t),
+        group.first,
+        group.stride,
+        group.m,
+        group.t,
+        how.fq,
+        f.sizes,
+        f.signs,
+    );
+    Next {
+        at: next.at + f.taken,
+        sign: next.sign + f.used,
+    }
+}
+
+// A group by words where it is short, and else plane after plane.
+fn any_group(
+    pairs: &[usize; 256],
+    dat: &[u8],
+    sgn: &[u8],
+    cells: &mut [i64],
+    how: Coding,
+    group: Group,
+    next: Next,
+) -> Next
+    requires { ⌜ IsPairs (now pairs) × GroupFit how group next (length (now cells)) ⌝ }
+    ensures { λ r. ⌜ groupValues (now (dat .entry)) (now (sgn .entry)) how group next (now (cells .entry)) ≡ (r, now (cells .exit)) ⌝ }
+{
+    let n = less(group.m, group.t);
+    let short = (group.count == 4) & (n <= 14) & (next.at / 2 + 8 <= dat.len());
+    if short {
+        return short_group(pairs, dat, sgn, cells, how, group, next);
+    }
+    group_values(dat, sgn, cells, how, group, next)
+}
+
 // Group g of a line, with the bitplane count from its count cell.
 fn group_of(cells: &[i64], line: Line, g: usize) -> Group
     requires { ⌜ HasGroup line g (length (now cells)) ⌝ }
@@ -225,6 +283,7 @@ fn group_of(cells: &[i64], line: Line, g: usize) -> Group
 // The coefficients of a line into their cells, from what comes next in its packet's data and sign stretches. Bits past the end of a stretch read
 // as 0: whether all are there is judged by the caller, from the nibbles that the counts ask for and from the sign bit that comes next.
 pub fn line_values(
+    pairs: &[usize; 256],
     dat: &[u8],
     sgn: &[u8],
     cells: &mut [i64],
@@ -232,15 +291,27 @@ pub fn line_values(
     line: Line,
     from: Next,
 ) -> Next
-    requires { ⌜ Fit how line from (length (now cells)) ⌝ }
+    requires { ⌜ IsPairs (now pairs) × Fit how line from (length (now cells)) ⌝ }
     ensures { λ r. ⌜ lineValues (now (dat .entry)) (now (sgn .entry)) how line from (now (cells .entry)) ≡ (r, now (cells .exit)) ⌝ }
 {
     let groups = (line.width + 3) / 4;
-    let mut next = from;
+    let mut at = from.at;
+    let mut sign = from.sign;
     let mut g: usize = 0;
     while g < groups {
-        next = group_values(dat, sgn, cells, how, group_of(cells, line, g), next);
+        let group = group_of(cells, line, g);
+        let next = any_group(
+            pairs,
+            dat,
+            sgn,
+            cells,
+            how,
+            group,
+            Next { at: at, sign: sign },
+        );
+        at = next.at;
+        sign = next.sign;
         g += 1;
     }
-    next
+    Next { at: at, sign: sign }
 }

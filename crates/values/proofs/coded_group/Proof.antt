@@ -63,7 +63,7 @@ index-read c =
     index-is (l .before .loop .inv .1) _ (below-four l) (sign (c .before)) (c .signed-index .ensures)
 
 signed-index-requires : tie.Need-signed-index-requires Inv-loop μ-loop
-signed-index-requires c κs = let l = c .before in size-small (l .before .loop .inv .1) _ (below-four l)
+signed-index-requires c κs = let l = c .before in omega (arith, size-small (l .before .loop .inv .1) _ (below-four l))
 
 scaled-coefficient-requires : tie.Need-scaled-coefficient-requires Inv-loop μ-loop
 scaled-coefficient-requires c κs =

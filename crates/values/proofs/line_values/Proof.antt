@@ -8,10 +8,11 @@ use Rattle.values.proofs.line_values.Statement.{statement}
 use Rattle.values.proofs.line_values.Tie as tie
 
 abbrev Inv-loop : tie.InvT-loop
-Inv-loop dat sgn cells₀ how line groups′ from g₀ cells next g = (g ≤ Ncg (line .width)) × Reached dat sgn how line from g cells₀ next cells
+Inv-loop pairs dat sgn cells₀ how line groups at₀ sign₀ g₀ cells at sign g =
+    (g ≤ Ncg (line .width)) × Reached dat sgn how line (record { at = at₀; sign = sign₀ }) g cells₀ (record { at = at; sign = sign }) cells
 
 abbrev μ-loop : tie.MeasureT-loop
-μ-loop dat sgn cells₀ how line groups′ from g₀ cells next g = Ncg (line .width) - g
+μ-loop pairs dat sgn cells₀ how line groups at₀ sign₀ g₀ cells at sign g = Ncg (line .width) - g
 
 abbrev start : tie.In-loop Inv-loop μ-loop → tie.Start Inv-loop μ-loop
 start c = c .before .before .before .before .before
@@ -21,23 +22,23 @@ some c = omega (arith, c .loop-test .taken)
 
 group-of-requires : tie.Need-group-of-requires Inv-loop μ-loop
 group-of-requires c κs =
-    let l = c .before .before in
+    let l = c .before in
     record {
       some = some l;
-      inside = omega (arith, start l .pre .inside (4 * l .before .loop .g) (some l), l .before .loop .inv .1 .written .long);
+      inside = omega (arith, start l .pre .1 .inside (4 * l .before .loop .g) (some l), l .before .loop .inv .1 .written .long);
     }
 
-group-values-requires : tie.Need-group-values-requires Inv-loop μ-loop
-group-values-requires c κs =
+any-group-requires : tie.Need-any-group-requires Inv-loop μ-loop
+any-group-requires c κs =
     let l = c .before .before .before in
-    rw (c .group-of .ensures) (fits-group _ _ _ _ _ _ _ (some l) (start l .pre) (l .before .loop .inv .1))
+    (start l .pre .0, rw (c .before .group-of .ensures) (fits-group _ _ _ _ _ _ _ (some l) (start l .pre .1) (l .before .loop .inv .1)))
 
 loop-again : tie.Need-loop-again Inv-loop μ-loop
 loop-again c =
     let v = c .before in
     let l = v .before .before .before .before in (
       omega (arith, l .loop-test .taken),
-      reached-next _ _ _ _ _ _ _ (some l) (start l .pre) (l .before .loop .inv .1) (rw (v .before .group-of .ensures) at (v .group-values .ensures)),
+      reached-next _ _ _ _ _ _ _ (some l) (start l .pre .1) (l .before .loop .inv .1) (rw (v .before .before .group-of .ensures) at (v .any-group .ensures)),
     )
 
 returns : tie.Need-returns Inv-loop μ-loop
@@ -52,7 +53,7 @@ line-values-spec =
     (λ c. search needs)
     (λ c. (omega arith, reached-first _ _ _ _ _ _))
     group-of-requires
-    group-values-requires
+    any-group-requires
     (λ c. search needs)
     (λ c. omega arith)
     loop-again

@@ -4,15 +4,13 @@ use mathlib.Core.Path.{_≡_}
 use native.Mathlib.Omega.{arith}
 use native.Mathlib.Nat.{mod-lt}
 use borrow.Author.Needs.{needs}
-use lib.Count.{leadingZeros, leading-le}
+use lib.Count.{leadingZeros}
 use lib.Pow.{pow-pos}
-use mir.Syntax.{w64}
-use mir.Val.{Fits}
 use denote.Ref.{now}
 use Rattle.whole.proofs.Machine.{one-shl}
 use Rattle.bits.proofs.Laws.{is-last}
 use Rattle.counts.specs.Codes.{ones}
-use Rattle.counts.proofs.Codes.{ones-read}
+use Rattle.counts.proofs.Codes.{zeros-fit, ones-read}
 use Rattle.counts.proofs.code.ones_in_byte.Statement.{statement}
 use Rattle.counts.proofs.code.ones_in_byte.Tie as tie
 
@@ -33,9 +31,6 @@ sub-turned-2 : tie.Need-sub-turned-2
 sub-turned-2 c =
     let i = c .before .before .args .i in
     rw (shifted i) (omega (arith, mod-lt (c .u8-at .result) (pow-pos (width i))))
-
-zeros-fit : (x : ℕ) → Fits w64 (leadingZeros 64 x)
-zeros-fit x = record { fits = omega (arith, leading-le 64 x) }
 
 cast-result : tie.Need-cast-result
 cast-result c = zeros-fit _

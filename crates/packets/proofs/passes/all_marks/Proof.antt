@@ -1,11 +1,10 @@
 -- `packets::passes::all_marks` meets its contract. Assumes nothing.
-use mathlib.Core.Path.{_≡_}
+use mathlib.Core.Path.{_≡_, refl}
 use Prim.Native.Nat.{_≤_, _-_, _*_, _^_}
 use native.Mathlib.Omega.{arith}
 use borrow.Author.Needs.{needs}
 use Rattle.layout.specs.Slots.{candidates}
 use Rattle.packets.specs.Passes.{marks}
-use Rattle.packets.proofs.Lines.{lies-read}
 use Rattle.packets.proofs.LinePasses.{marks-none, marks-more}
 use Rattle.packets.proofs.passes.all_marks.Statement.{statement}
 use Rattle.packets.proofs.passes.all_marks.Tie as tie
@@ -22,21 +21,13 @@ candidate-count-requires c κs = (c .before .before .pre .slotted .settled .shap
 loop-holds : tie.Need-loop-holds Inv-loop μ-loop
 loop-holds c = (omega arith, marks-none _ _ _ _ _, omega arith)
 
-candidate-requires : tie.Need-candidate-requires Inv-loop μ-loop
-candidate-requires c κs = (c .before .before .before .before .before .pre .slotted, omega (arith, c .before .before .candidate-count .ensures .0))
-
-marks-of-requires : tie.Need-marks-of-requires Inv-loop μ-loop
-marks-of-requires c κs =
-    let start = c .before .before .before .before .before .before in
-    (start .pre .slotted .settled, omega (arith, start .pre .at, start .pre .end, start .pre .short), lies-read (start .pre .slotted) (omega (arith, c .before .loop-test .taken, c .before .before .before .candidate-count .ensures .0)) (c .candidate .ensures))
-
 add-sum : tie.Need-add-sum Inv-loop μ-loop
-add-sum c = omega (arith, c .marks-of .ensures .small, c .before .before .before .loop .inv .2, c .before .before .before .before .candidate-count .ensures .1)
+add-sum c = omega (arith, c .marks-at .ensures .small, c .before .before .loop .inv .2, c .before .before .before .candidate-count .ensures .1)
 
 loop-again : tie.Need-loop-again Inv-loop μ-loop
 loop-again c =
-    let l = c .before .before .before .loop in
-    (omega arith, marks-more _ _ _ _ _ _ (l .inv .1) (c .before .candidate .ensures) (c .marks-of .ensures .value), omega (arith, c .marks-of .ensures .small, l .inv .2))
+    let l = c .before .before .loop in
+    (omega arith, marks-more _ _ _ _ _ _ (l .inv .1) refl (c .marks-at .ensures .value), omega (arith, c .marks-at .ensures .small, l .inv .2))
 
 returns : tie.Need-returns Inv-loop μ-loop
 returns c =
@@ -54,8 +45,7 @@ all-marks-spec =
     μ-loop
     candidate-count-requires
     loop-holds
-    candidate-requires
-    marks-of-requires
+    (λ c κs. (c .before .before .before .before .before .pre, omega (arith, c .loop-test .taken, c .before .before .candidate-count .ensures .0)))
     add-sum
     (λ c. search needs)
     (λ c. search needs)

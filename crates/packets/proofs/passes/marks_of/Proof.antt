@@ -24,7 +24,7 @@ returns-3 : tie.Need-returns-3
 returns-3 c =
     let l = c .before .before in
     let a = l .before .before .before .args in
-    record { value = flags-plain (now (a .s)) (a .c) (a .p) (a .l) (l .if2 .taken) (l .before .if1 .left) (c .before .mode-of .ensures .value) (c .if3 .left); small = omega arith }
+    record { value = flags-plain (now (a .s)) (a .c) (a .p) (a .l) (a .raw) (c .before .mode-of .ensures .value) (c .if3 .left); small = omega arith }
 
 returns-4 : tie.Need-returns-4
 returns-4 c =

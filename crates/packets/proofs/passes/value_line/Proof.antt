@@ -12,7 +12,7 @@ line-values-requires : tie.Need-line-values-requires
 line-values-requires c κs =
     let start = c .before .before .before .before .before in
     let a = start .args in
-    value-fit (a .c) (a .p .row) (a .l) (start .pre .0) (start .pre .1 (c .before .before .if1 .taken)) (start .pre .2) (start .pre .3) (start .pre .4)
+    (start .pre .5, value-fit (a .c) (a .p .row) (a .l) (start .pre .0) (start .pre .1 (c .before .before .if1 .taken)) (start .pre .2) (start .pre .3) (start .pre .4))
 
 returns : tie.Need-returns
 returns c =

@@ -6,6 +6,7 @@ use denote.Ref.{now}
 use Rattle.rows.specs.Rows.{check, ample, first}
 use Rattle.rows.specs.declared.Row.the-variants.{Cut, Length}
 use Rattle.rows.specs.declared.Field.the-variants.{Lprc, Precinct as PrecinctField}
+use Rattle.slices.proofs.PrecinctLaws.{head-most}
 use Rattle.slices.proofs.WalkLaws.{walk-turned}
 use borrow.Author.Needs.{needs}
 use Rattle.slices.proofs.walk.walk_turn.Statement.{statement}
@@ -13,8 +14,9 @@ use Rattle.slices.proofs.walk.walk_turn.Tie as tie
 
 returns : tie.Need-returns
 returns c =
-    let a = c .before .before .before .before .before .before .args in
-    let hb = c .before .before .before .before .bytes-of-header .ensures .0 in
+    let b = c .before .before .before .before .before in
+    let a = b .args in
+    let hb = b .pre .0 .head in
     let l = c .before .before .before .u24-at .ensures .value in
     let there = c .before .before .left .ensures in
     let r = c .step .ensures in
@@ -28,10 +30,9 @@ walk-turn-spec =
     tie.close
     (tie.spec
     (λ c κs. search needs)
+    (λ c. omega (arith, head-most (c .before .before .pre .0), c .before .before .pre, c .u24-at .ensures .below))
     (λ c κs. search needs)
-    (λ c. search needs)
     (λ c κs. search needs)
-    (λ c κs. search needs)
-    (λ c. search needs)
+    (λ c. omega (arith, head-most (c .before .before .before .before .pre .0), c .before .before .before .before .pre, c .before .before .u24-at .ensures .below))
     (λ c κs. search needs)
     returns)
