@@ -3,13 +3,13 @@ ghost use Rattle.std.specs.Prelude.{◌≡◌, ◌+◌, ◌*◌, ◌≤◌, ◌<
 ghost use Rattle.bits.specs.Cursors.{Steps};
 
 // A place in a stretch, counted in bits.
-#[derive(Drop)]
+#[derive(Clone, Copy)]
 pub struct Cursor {
     pub at: usize,
 }
 
 // A field, and the cursor past it.
-#[derive(Drop)]
+#[derive(Clone, Copy)]
 pub struct Step {
     pub value: usize,
     pub next: Cursor,

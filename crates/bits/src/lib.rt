@@ -1,5 +1,7 @@
 // Fields of a stretch of bytes, at a byte's place or at any bit. Every reader is total: past the end of the stretch each byte reads as 0, so that
 // whether a field is there is a check of its own and not a reader's affair.
+#![tactic(auto)]
+
 mod cursor;
 pub mod packet;
 

@@ -5,7 +5,7 @@ ghost use Rattle.bits.specs.Packet.{short_widths, long_widths, header_bytes, Fit
 use crate::cursor::Cursor;
 
 // How many bits a packet header's three lengths have.
-#[derive(Drop)]
+#[derive(Clone, Copy)]
 pub struct Widths {
     pub dat: usize,
     pub cnt: usize,
@@ -59,7 +59,7 @@ impl Widths {
 }
 
 // The raw mode override flag Dr, and the lengths in bytes of the data, the bitplane count and the sign subpacket.
-#[derive(Drop)]
+#[derive(Clone, Copy)]
 pub struct PacketHeader {
     pub dr: usize,
     pub ldat: usize,

@@ -1,12 +1,14 @@
 // Annex F of ISO/IEC 21122-1, as far as it is built: the inverse reversible colour transform of F.3, on components 0 to 2, in place.
 // The kind of value is a number, 0 for samples and 1 for distance numbers (specs/Kinds), and one loop serves each kind.
+#![tactic(auto)]
+
 ghost use Rattle.std.specs.Prelude.{◌≡◌, ◌≢◌, ◌^◌, ◌≤◌, ◌<◌, length};
 ghost use Rattle.colour.specs.Rct.{inverse_rct, numbers_rct, Small};
 ghost use Rattle.colour.specs.Kinds.{Holds, raised_rct, rct_of};
 ghost use Rattle.colour.specs.Pass.{pixel, put, Stretches, HoldingNumbers, Transformed, TransformedBy};
 
 // A pixel's components 0, 1 and 2.
-#[derive(Drop)]
+#[derive(Clone, Copy)]
 pub struct Pixel {
     pub c0: i64,
     pub c1: i64,
@@ -14,7 +16,7 @@ pub struct Pixel {
 }
 
 // The distance numbers of components 0, 1 and 2.
-#[derive(Drop)]
+#[derive(Clone, Copy)]
 pub struct Numbers {
     pub c0: u64,
     pub c1: u64,

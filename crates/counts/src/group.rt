@@ -1,7 +1,7 @@
 // What is said of the counts of a code group: how they are coded, and what reading one finds.
 
 // The bitplane count coding modes.
-#[derive(Drop)]
+#[derive(Clone, Copy)]
 pub enum Mode {
     Raw,
     NoPrediction,
@@ -10,7 +10,7 @@ pub enum Mode {
 
 // How the counts of a line are coded: `flags` where D[p,b] & 2, `run` where Rm = 1, T[p,b] and Br. `fs`, where Fs = 1, counts only for the
 // nibbles of data.
-#[derive(Drop)]
+#[derive(Clone, Copy)]
 pub struct Coding {
     pub mode: Mode,
     pub flags: bool,
@@ -22,7 +22,7 @@ pub struct Coding {
 
 // What reading a group finds: its count with the bit past its code, that the stretch's end cuts the code, a count that is out of range, or so many 1-bits that
 // they are no code.
-#[derive(Drop)]
+#[derive(Clone, Copy)]
 pub enum Group {
     Count(usize, usize),
     Cut,

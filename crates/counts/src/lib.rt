@@ -1,4 +1,6 @@
 // Annex C: the bitplane counts of one line of one band, from their stretch of a packet into the work cells.
+#![tactic(auto)]
+
 mod code;
 pub mod group;
 mod unpack;
@@ -13,7 +15,7 @@ use crate::group::{Coding, Group, Mode};
 
 // Where the cells of a line lie: coefficient x at `first` + x `stride`, for x below `width`, its count `area` cells behind it, and the
 // same coefficient one line up `up` cells before it.
-#[derive(Drop)]
+#[derive(Clone, Copy)]
 pub struct Place {
     pub first: usize,
     pub stride: usize,
@@ -24,7 +26,7 @@ pub struct Place {
 
 // What reading a line finds: the bit past it and the nibbles of data that its groups take, that the stretch's end cuts a code, a count that is
 // out of range, or so many 1-bits that they are no code.
-#[derive(Drop)]
+#[derive(Clone, Copy)]
 pub enum Line {
     Done { next: usize, need: usize },
     Cut,

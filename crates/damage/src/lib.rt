@@ -1,5 +1,7 @@
 // The slices of a page, from the first slice header to the end of the stream. In the mode of document 02's C-15 a spoilt slice's coefficients are lost, and the
 // reading goes on behind it.
+#![tactic(auto)]
+
 pub mod lost;
 
 ghost use Rattle.std.specs.Prelude.{◌≡◌, ◌≤◌, ◌<◌, ◌^◌, length};

@@ -13,7 +13,7 @@ use layout::lines::{area_of, samples_before};
 use layout::numbers::power;
 
 // Rows of cells: the first, and the one behind the last.
-#[derive(Drop)]
+#[derive(Clone, Copy)]
 struct Rows {
     from: usize,
     to: usize,

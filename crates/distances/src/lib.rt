@@ -1,4 +1,6 @@
 // Document 01's distance rule: how far a component's samples may be from those of the coefficients that were coded.
+#![tactic(auto)]
+
 ghost use Rattle.std.specs.Prelude.{◌≡◌, cond, ◌+◌, ◌-◌, ◌≤◌, ◌<◌, ◌^◌, ltb, get_or};
 ghost use Rattle.whole.specs.Cells.{listed};
 ghost use Rattle.quantiser.specs.Distance.{band_number};

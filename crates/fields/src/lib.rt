@@ -1,5 +1,7 @@
 // Request C-19's fixed list: the name of each field, and whether its numbers are codes. The names stand in one table, in the order of the fields, since a `match`
 // with a text in each arm is too much for one proof.
+#![tactic(auto)]
+
 ghost use Rattle.std.specs.Prelude.{◌≡◌, ◌++◌, ◌+◌, ◌-◌, ◌<◌, ◌≤◌, length, get_or, drop, replicate};
 ghost use Rattle.std.proofs.Math.Seq.{paste};
 ghost use Rattle.fields.specs.Names.{name_of, code_field, code_row, codes};
@@ -180,7 +182,7 @@ fn begin(n: usize) -> usize
 }
 
 // A name has at most 39 letters, so a zero follows it.
-#[derive(Drop)]
+#[derive(Clone, Copy)]
 pub struct Named {
     pub letters: [u8; 40],
     pub size: usize,

@@ -14,7 +14,7 @@ use segments::components::Component;
 use segments::seen::Seen;
 
 // What the segments say.
-#[derive(Drop)]
+#[derive(Clone, Copy)]
 pub struct Header {
     pub picture: Picture,
     // by component: 0 where there is none
@@ -31,7 +31,7 @@ pub struct Header {
 }
 
 // A refused stream has no header: all of it is 0 and 'no'.
-#[derive(Drop)]
+#[derive(Clone, Copy)]
 pub struct Reading {
     pub verdict: Verdict,
     pub header: Header,

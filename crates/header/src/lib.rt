@@ -1,4 +1,6 @@
 // The header of a codestream, up to and with the first slice marker.
+#![tactic(auto)]
+
 pub mod header;
 pub mod walk;
 pub mod weights;

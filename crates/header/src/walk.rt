@@ -13,7 +13,7 @@ use segments::seen::Seen;
 use segments::tables::segment_row;
 
 // Where the walk is, whether it has ended, with which verdict, and what it has seen.
-#[derive(Drop)]
+#[derive(Clone, Copy)]
 pub struct Walk {
     // the place of the segment at hand
     pub at: usize,

@@ -8,7 +8,7 @@ use picture::picture::Picture;
 use segments::weights::{band_count, band_exists};
 
 // By band: 0 where it does not exist. No picture has more than 40 bands.
-#[derive(Drop)]
+#[derive(Clone, Copy)]
 pub struct Weights {
     pub gains: [u8; 40],
     pub priorities: [u8; 40],

@@ -1,4 +1,6 @@
 // Reads the header of each file that is named, and prints the answer's number and place, or the header's fields.
+#![tactic(auto)]
+
 use header::header::Header;
 use libc::STDOUT_FILENO;
 use picture::picture::Picture;

@@ -8,7 +8,7 @@ use crate::Shape;
 use crate::numbers::{ceil_div, power, smaller};
 
 // A filter type: 1 where it is high-pass, and its depths.
-#[derive(Drop)]
+#[derive(Clone, Copy)]
 pub struct Filter {
     pub tx: usize,
     pub ty: usize,
@@ -17,7 +17,7 @@ pub struct Filter {
 }
 
 // A component: its sampling factors, its size and its levels down.
-#[derive(Drop)]
+#[derive(Clone, Copy)]
 pub struct Component {
     pub sx: usize,
     pub sy: usize,
@@ -27,7 +27,7 @@ pub struct Component {
 }
 
 // A band: its filter type with the component's own depth down, and the component.
-#[derive(Drop)]
+#[derive(Clone, Copy)]
 pub struct Band {
     pub exists: bool,
     pub filter: Filter,

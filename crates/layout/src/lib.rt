@@ -1,4 +1,6 @@
 // Annex B of the standard: bands, precincts, the lines of each packet, and where each coefficient lies.
+#![tactic(auto)]
+
 pub mod bands;
 pub mod headers;
 pub mod lines;
@@ -6,7 +8,7 @@ pub mod numbers;
 pub mod precincts;
 
 // What Annex B needs of a picture's header. Entries of sx and sy past the components are 0.
-#[derive(Drop)]
+#[derive(Clone, Copy)]
 pub struct Shape {
     pub wf: usize,
     pub hf: usize,
@@ -21,7 +23,7 @@ pub struct Shape {
 
 // A line of a band in a precinct: which it is, where its coefficients lie, and how many they are. Count cells stand `area` cells behind the
 // coefficients; the line above in the band stands `up` cells before.
-#[derive(Drop)]
+#[derive(Clone, Copy)]
 pub struct Line {
     pub present: bool,
     pub band: usize,

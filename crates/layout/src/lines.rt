@@ -13,14 +13,14 @@ use crate::precincts::{Column, column_of};
 use crate::{Line, Shape};
 
 // A line's row in its band, and whether the precinct has it.
-#[derive(Drop)]
+#[derive(Clone, Copy)]
 pub struct Reach {
     pub y: usize,
     pub present: bool,
 }
 
 // A line's first column in its band, and how many it has.
-#[derive(Drop)]
+#[derive(Clone, Copy)]
 pub struct Span {
     pub x: usize,
     pub width: usize,
@@ -88,7 +88,7 @@ fn cell_of(b: Band, x: usize, y: usize) -> usize
 }
 
 // A slot: its first filter type, how many it has, and its line.
-#[derive(Drop)]
+#[derive(Clone, Copy)]
 pub struct Slot {
     pub first: usize,
     pub types: usize,

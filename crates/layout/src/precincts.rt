@@ -8,7 +8,7 @@ use crate::Shape;
 use crate::numbers::{ceil_div, larger, low_size, power, product};
 
 // A column of precincts on the sampling grid.
-#[derive(Drop)]
+#[derive(Clone, Copy)]
 pub struct Column {
     pub x: usize,
     pub width: usize,

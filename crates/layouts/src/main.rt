@@ -1,4 +1,6 @@
 // Reads the header of each file that is named, and prints what Annex B makes of it: components, slices, precincts, packets and their lines.
+#![tactic(auto)]
+
 ghost use Rattle.std.specs.Prelude.{◌≡◌, ◌*◌, ◌<◌, ◌≤◌, ◌^◌};
 ghost use Rattle.layout.specs.Built.{Built};
 ghost use Rattle.layout.specs.Precincts.{Npx, Npy, slices};

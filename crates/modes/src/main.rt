@@ -4,6 +4,8 @@
 //   q  both: its text, its marks, and the distances
 //   b  the page and where the bytes of its stream went: its text, and a line of the nine totals
 //   c  the same in spite of damage, without its marks
+#![tactic(auto)]
+
 use libc::{STDIN_FILENO, STDOUT_FILENO};
 use show::modes::Mode;
 

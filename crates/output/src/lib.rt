@@ -1,12 +1,14 @@
 // Annex G of ISO/IEC 21122-1, as far as it is built: linear output scaling (G.3), from the work buffer's values to samples, and
 // from distance numbers to distances.
+#![tactic(auto)]
+
 ghost use Rattle.std.specs.Prelude.{◌≡◌, ◌≢◌, map, cond, ◌^◌, ◌≤◌, ◌<◌, min, eqb, pos, nat_abs, length, get_or};
 ghost use Rattle.whole.specs.Cells.{map_at};
 ghost use Rattle.output.specs.Linear.{clamp, distance, output_of, lost_distance, Precisions, Lent, Numbers};
 ghost use Rattle.output.specs.Constants.{scale_of, by_scale, number_by_scale, output_by_scale, Usable};
 
 // What Table G.2 works out once for a component: both terms that it adds, in one; the shift; the largest sample.
-#[derive(Drop)]
+#[derive(Clone, Copy)]
 struct Scale {
     lift: u64,
     shift: u64,

@@ -1,4 +1,6 @@
 // Annex C: one packet of a precinct, from its header to the coefficients and counts in the work cells.
+#![tactic(auto)]
+
 pub mod bands;
 pub mod passes;
 
@@ -37,7 +39,7 @@ use rows::{AMPLE, Check, Field, HOLDS, Row, Verdict};
 // What Annex C needs of the headers: Annex B's shape, the widths of a packet header, Br, Fq, whether Qpih selects the uniform quantiser, whether Fs, Rm
 // and Rl are 1, and gain and priority of each band. The rest follows from the shape and is worked out once for a page, since every line asks for it: the first
 // bit of each band's D in a precinct header, and the bytes of that header.
-#[derive(Drop)]
+#[derive(Clone, Copy)]
 pub struct Setting {
     pub shape: Shape,
     pub widths: Widths,
@@ -54,7 +56,7 @@ pub struct Setting {
 }
 
 // A precinct whose header is accepted: its row and column, the place of its header and the one past its last byte, Q[p] and R[p].
-#[derive(Drop)]
+#[derive(Clone, Copy)]
 pub struct Precinct {
     pub row: usize,
     pub column: usize,
@@ -65,7 +67,7 @@ pub struct Precinct {
 }
 
 // Where the parts of a packet stand, whether they fit or not: its header, the four subpackets, and the place behind them. `raw` where Dr = 1.
-#[derive(Drop)]
+#[derive(Clone, Copy)]
 struct Parts {
     at: usize,
     raw: bool,
@@ -77,7 +79,7 @@ struct Parts {
 }
 
 // A packet header that is read and judged.
-#[derive(Drop)]
+#[derive(Clone, Copy)]
 struct Opened {
     verdict: Verdict,
     dr: usize,
@@ -85,14 +87,14 @@ struct Opened {
 }
 
 // What the values leave beside the cells: the verdict, and the bytes that the content of the sign subpacket takes.
-#[derive(Drop)]
+#[derive(Clone, Copy)]
 struct Signed {
     verdict: Verdict,
     signs: usize,
 }
 
 // What the counts, the data and the signs leave: the verdict, and the bytes that the content of each takes, 0 where the decoder does not come to it.
-#[derive(Drop)]
+#[derive(Clone, Copy)]
 struct Content {
     verdict: Verdict,
     counts: usize,
@@ -101,14 +103,14 @@ struct Content {
 }
 
 // The same with the header and with filler: where the bytes of the packet went.
-#[derive(Drop)]
+#[derive(Clone, Copy)]
 struct Passed {
     verdict: Verdict,
     bytes: Bytes,
 }
 
 // What a packet leaves beside the cells: the verdict, its raw flag, the place behind it, and where its bytes went.
-#[derive(Drop)]
+#[derive(Clone, Copy)]
 pub struct Outcome {
     pub verdict: Verdict,
     pub dr: usize,

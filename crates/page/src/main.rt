@@ -1,4 +1,6 @@
 // Reads a page from standard input, of at most 16,384 bytes and 2,048 samples, and prints it.
+#![tactic(auto)]
+
 use libc::{STDIN_FILENO, STDOUT_FILENO};
 use show::modes::Mode;
 

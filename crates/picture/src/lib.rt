@@ -1,4 +1,6 @@
 // The first three segments: start of codestream, capabilities, picture header.
+#![tactic(auto)]
+
 pub mod marker;
 pub mod opening;
 pub mod picture;

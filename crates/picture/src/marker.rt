@@ -1,5 +1,5 @@
 // The codes of markers, Table A.2, and of extensions.
-#[derive(Drop)]
+#[derive(Clone, Copy)]
 pub struct Marker;
 
 impl Marker {
@@ -34,7 +34,7 @@ impl Marker {
     pub const CAP: usize = 0xff50;
 }
 
-#[derive(Drop)]
+#[derive(Clone, Copy)]
 pub struct Extension;
 
 impl Extension {

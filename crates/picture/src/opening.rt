@@ -10,7 +10,7 @@ use crate::segment::{Segment, length_row, marker_row};
 use rows::{Field, Verdict};
 
 // The verdict on the first three segments, and the picture header.
-#[derive(Drop)]
+#[derive(Clone, Copy)]
 pub struct Opening {
     pub verdict: Verdict,
     // the picture header's place

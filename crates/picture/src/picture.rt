@@ -6,7 +6,7 @@ ghost use Rattle.picture.specs.Picture.{no_picture, picture_at, size_checks, pre
 use rows::{AMPLE, Check, Field, HOLDS, Row, Verdict};
 
 // Every field of Table A.7 behind the segment's length, in the standard's letters.
-#[derive(Drop)]
+#[derive(Clone, Copy)]
 pub struct Picture {
     pub lcod: usize,
     pub ppih: usize,

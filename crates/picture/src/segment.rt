@@ -6,7 +6,7 @@ ghost use Rattle.picture.specs.Segment.{marker_checks, length_checks, IsSegment}
 use rows::{AMPLE, Check, Field, Row, Verdict};
 
 // A segment's marker and length.
-#[derive(Drop)]
+#[derive(Clone, Copy)]
 pub struct Segment {
     // the marker's place
     pub at: usize,

@@ -1,4 +1,6 @@
 // Document 02, C-16: where the bytes of a stream went, by what they hold.
+#![tactic(auto)]
+
 ghost use Rattle.std.specs.Prelude.{[], ◌∷◌, ◌≡◌, ◌+◌, ◌<◌, ◌^◌};
 ghost use Rattle.pieces.specs.Pieces.{Markers, Precincts, Spoilt, bytes_of, plus, all, bytes_by};
 
@@ -6,7 +8,7 @@ use rows::Verdict;
 
 // So many bytes of each kind: markers with their segments, slice headers and the end marker among them; precinct headers; packet headers; the content of
 // significance, count, data and sign subpackets, each with its padding to the byte; filler behind a content; and the precincts of spoilt slices.
-#[derive(Drop)]
+#[derive(Clone, Copy)]
 pub struct Bytes {
     pub markers: usize,
     pub precincts: usize,

@@ -1,5 +1,7 @@
 // What C calls: include/pitchladle.h says it in C's words. A slice is a pointer and a count there, an array a pointer. Nothing is asked of what the
 // buffers hold.
+#![tactic(auto)]
+
 ghost use Rattle.std.specs.Prelude.{◌≡◌, cond};
 ghost use Rattle.rows.specs.declared.Verdict.TheVariants.{Fine};
 ghost use Rattle.layout.specs.Built.{Built};
@@ -126,7 +128,7 @@ pub extern "C" fn pitchladle_read_damaged_places(
 
 // Why a page is refused, as it crosses: number and place, the value found, least and most expected, and whether these three are codes, which are written in
 // hexadecimal; and the field's name, with zeros behind it. Of a page that is read all is 0 but the place.
-#[derive(Drop)]
+#[derive(Clone, Copy)]
 struct Reason {
     cells: [u64; 6],
     name: [u8; 40],

@@ -1,4 +1,6 @@
 // Document 01's distance rule 1, coefficient by coefficient: the number of each coefficient, into the cell where the coefficient stands.
+#![tactic(auto)]
+
 ghost use Rattle.std.specs.Prelude.{◌≡◌, ◌≤◌, ◌<◌, pos, length};
 ghost use Rattle.whole.specs.Cells.{OntoLine};
 ghost use Rattle.rows.specs.declared.Verdict.TheVariants.{Fine};

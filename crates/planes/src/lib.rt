@@ -1,5 +1,7 @@
 // From the coefficients in the work cells to samples: Annexes E and F in place, and Annex G into the lent samples.
 // Distance numbers, and marks with them, go the same way. The kind of value is a number, 0 for samples and 1 for numbers (specs/Numbers).
+#![tactic(auto)]
+
 ghost use Rattle.std.specs.Prelude.{◌≡◌, ◌≢◌, map, ℕ, ◌^◌, ◌≤◌, ◌<◌, length, get_or};
 ghost use Rattle.layout.specs.Built.{Built};
 ghost use Rattle.layout.specs.Cells.{samples};

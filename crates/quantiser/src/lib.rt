@@ -1,4 +1,6 @@
 // Annex D: from the indices of a stream to wavelet coefficients, by either inverse quantiser.
+#![tactic(auto)]
+
 ghost use Rattle.std.specs.Prelude.{◌≡◌, ◌≤◌, ◌<◌, ◌^◌, nat_abs};
 ghost use Rattle.whole.specs.Numbers.{with_sign};
 ghost use Rattle.quantiser.specs.Inverse.{deadzone, uniform, inverse, coefficient_of, scaled, Carried};

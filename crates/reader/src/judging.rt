@@ -13,7 +13,7 @@ use layout::lines::samples_before;
 use rows::Verdict;
 
 // What a reading finds before it shows anything: the verdict, the header, and the bands' largest T.
-#[derive(Drop)]
+#[derive(Clone, Copy)]
 pub struct Judged {
     pub verdict: Verdict,
     pub header: Header,

@@ -1,4 +1,6 @@
 // Reads a page: the header, row 5, the slices into the work cells, then samples and distances; where they are asked for, marks, and a distance for each sample.
+#![tactic(auto)]
+
 pub mod judging;
 pub mod page;
 mod records;

@@ -2,7 +2,7 @@
 // components width, height, precision and distance, 0 where there is none, and where the bytes of the stream went.
 use pieces::Bytes;
 
-#[derive(Drop)]
+#[derive(Clone, Copy)]
 pub struct Page {
     pub answer: u8,
     pub place: usize,

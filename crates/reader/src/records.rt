@@ -52,7 +52,7 @@ pub fn shown(h: Header, distance: [usize; 4], bytes: Bytes) -> Page
 }
 
 // A component's width, height and precision.
-#[derive(Drop)]
+#[derive(Clone, Copy)]
 struct Size {
     w: usize,
     h: usize,

@@ -1,4 +1,6 @@
 // Document 02, C-19: why a page is refused, or where one that is read is coarsest.
+#![tactic(auto)]
+
 mod search;
 
 ghost use Rattle.std.specs.Prelude.{◌≡◌};
@@ -14,7 +16,7 @@ use rows::Verdict;
 
 // Why a page is refused: the verdict with the check that decided, and its place. Of a page that is read instead, for each component as it is coded: the lowest
 // band with the component's largest T, the lowest precinct that holds the band with that T, and the T. All else is 0.
-#[derive(Drop)]
+#[derive(Clone, Copy)]
 pub struct Why {
     pub verdict: Verdict,
     pub place: usize,

@@ -21,7 +21,7 @@ use packets::{Precinct, Setting};
 use slices::precincts::precinct_in;
 
 // Where a component is coarsest, and how coarse it is there.
-#[derive(Drop)]
+#[derive(Clone, Copy)]
 pub struct Coarse {
     pub band: usize,
     pub precinct: usize,

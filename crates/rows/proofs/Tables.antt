@@ -109,7 +109,7 @@ held (c ∷ cs) e =
 
 -- no check of a table is broken, exactly where nothing is refused
 pub fine_iff : (t : List Check) → (first t ≡ Fine) ↔ Unbroken t
-fine_iff [] = (λ e c m. absurd (Memᴰ.not_nil m), λ u. refl)
+fine_iff [] = (λ e c m. absurd (Memᴰ.not-nil m), λ u. refl)
 fine_iff (d ∷ ds) =
     (λ e. pick (broken d) refl e (fine_iff ds).0, λ u. rw (u d (Memᴰ.head refl)) ((fine_iff ds).1 (λ c m. u c (Memᴰ.tail m))))
   where

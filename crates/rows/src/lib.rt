@@ -1,9 +1,11 @@
 // Refusals: a check and its range, the first broken check of a table, the verdict.
+#![tactic(auto)]
+
 ghost use Rattle.std.specs.Prelude.{◌≡◌, cond, [], ◌∷◌};
 ghost use Rattle.rows.specs.Rows.{number, answer, place_of, first, then};
 
 // The rows of document 01's table of refusal numbers, in its order.
-#[derive(Drop)]
+#[derive(Clone, Copy)]
 pub enum Row {
     // 1: the stream ends before a header field or marker segment does
     Cut,
@@ -24,7 +26,7 @@ pub enum Row {
 }
 
 // The fixed list of fields, in the order of a stream and in the standard's letters.
-#[derive(Drop)]
+#[derive(Clone, Copy)]
 pub enum Field {
     Soc,
     Cap,
@@ -110,7 +112,7 @@ pub enum Field {
 }
 
 // Row, place, field, value found, least and most expected: broken where the value found is not from the least to the most.
-#[derive(Drop)]
+#[derive(Clone, Copy)]
 pub struct Check(
     pub Row,
     pub usize,
@@ -127,7 +129,7 @@ pub const AMPLE: usize = 0xffff_ffff_ffff_ffff;
 pub const HOLDS: Check = Check(Row::Cut, 0, Field::Soc, 0, 0, 0);
 
 // Nothing is refused, or the first broken check.
-#[derive(Drop)]
+#[derive(Clone, Copy)]
 pub enum Verdict {
     Fine,
     Refused(Check),

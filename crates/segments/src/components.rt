@@ -11,7 +11,7 @@ use picture::picture::Picture;
 use rows::{AMPLE, Check, Field, Row, Verdict};
 
 // A component as the table has it.
-#[derive(Drop)]
+#[derive(Clone, Copy)]
 pub struct Component {
     pub depth: usize,
     pub sx: usize,

@@ -6,7 +6,7 @@ use picture::marker::Marker;
 use rows::Field;
 
 // The kinds of segments, and the slice headers.
-#[derive(Drop)]
+#[derive(Clone, Copy)]
 pub enum Kind {
     Components,
     Weights,

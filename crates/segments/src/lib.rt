@@ -1,4 +1,6 @@
 // The segments between the picture header and the first slice header.
+#![tactic(auto)]
+
 pub mod components;
 pub mod kinds;
 mod numbers;

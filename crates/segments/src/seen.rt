@@ -3,7 +3,7 @@
 ghost use Rattle.std.specs.Prelude.{◌≡◌};
 ghost use Rattle.segments.specs.Segments.{none_seen, counted};
 
-#[derive(Drop)]
+#[derive(Clone, Copy)]
 pub struct Seen {
     pub cdt: usize,
     pub wgt: usize,

@@ -1,4 +1,6 @@
 // The shape that an accepted header gives Annex B.
+#![tactic(auto)]
+
 ghost use Rattle.std.specs.Prelude.{◌≡◌};
 ghost use Rattle.shapes.specs.Shapes.{shape_of};
 

@@ -1,6 +1,8 @@
 // The text of a page, as document 01 says: the answer, then for each component a heading and its rows of samples. Of a page that was read in spite of damage
 // then, in the same way, the marks, and of one that was read with a plane of distances last the distances; or behind the samples a line that tells where the
 // stream's bytes went. The text goes into a lent buffer; what does not fit is left out, so no caller has to reckon first.
+#![tactic(auto)]
+
 pub mod modes;
 pub mod why;
 
@@ -70,7 +72,7 @@ fn put_answer(out: &mut [u8], answer: u64, place: u64) -> usize
 }
 
 // What stands in rows, component by component: the samples, the marks of those that are lost, or the distance of each.
-#[derive(Drop)]
+#[derive(Clone, Copy)]
 enum Plane {
     Samples,
     Marks,
@@ -148,7 +150,7 @@ fn put_row(
 }
 
 // How far the text and the plane are used up.
-#[derive(Drop)]
+#[derive(Clone, Copy)]
 struct Progress {
     at: usize,
     next: usize,

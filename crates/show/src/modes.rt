@@ -8,7 +8,7 @@ ghost use Rattle.show.specs.Modes.{ReadsAs, text_as, TextOf};
 use crate::{counted_text, damaged_places_text, damaged_text, page_text, places_text};
 use reader::page::Page;
 
-#[derive(Drop)]
+#[derive(Clone, Copy)]
 pub enum Mode {
     Plain,
     Damaged,
@@ -19,7 +19,7 @@ pub enum Mode {
 }
 
 // What is told of a stream beside its text: how many bytes that has, and whether the record says that a caption is there.
-#[derive(Drop)]
+#[derive(Clone, Copy)]
 pub struct Told {
     pub size: usize,
     pub caption: bool,

@@ -62,7 +62,7 @@ fn put_expected_line(out: &mut [u8], at: usize, code: bool, least: u64, most: u6
 }
 
 // What the numbers of a check are: bytes that are left and needed, cells that are lent and needed, or the value found and those that it may be.
-#[derive(Drop)]
+#[derive(Clone, Copy)]
 enum Tells {
     Bytes,
     Cells,

@@ -1,5 +1,7 @@
 // Reads lines `M T v size` from the file that is named, and holds each size against the uniform inverse quantiser's. Prints the lines that differ, and how
 // many agreed.
+#![tactic(auto)]
+
 ghost use Rattle.std.specs.Prelude.{◌≤◌, ◌<◌, length};
 ghost use Rattle.io.specs.Counts.{IsPrefixLen};
 
@@ -7,14 +9,14 @@ use libc::STDOUT_FILENO;
 use quantiser::scaled_coefficient;
 
 // A number of the text, and the place behind it and the byte that ends it.
-#[derive(Drop)]
+#[derive(Clone, Copy)]
 struct Word {
     value: u64,
     next: usize,
 }
 
 // The four numbers of a line, and the place behind it.
-#[derive(Drop)]
+#[derive(Clone, Copy)]
 struct Line {
     m: u64,
     t: u64,

@@ -1,4 +1,6 @@
 // Slices and their precincts, the walk by declared lengths, and the end marker. The loop over the slices stands in `damage`.
+#![tactic(auto)]
+
 pub mod precincts;
 mod tops;
 pub mod walk;
@@ -22,7 +24,7 @@ use pieces::{Bytes, NOTHING};
 use rows::{AMPLE, Check, Field, HOLDS, Row, Verdict};
 
 // Where a reading stands: the verdict, the next place, and the bands' largest T so far; and where the bytes went of what is read. The work cells stand beside it.
-#[derive(Drop)]
+#[derive(Clone, Copy)]
 pub struct Reading {
     pub verdict: Verdict,
     pub at: usize,

@@ -23,7 +23,7 @@ use pieces::{Bytes, NOTHING};
 use rows::{AMPLE, Check, Field, HOLDS, Row, Verdict};
 
 // What a slot of a precinct leaves beside the cells: the verdict, the next place, the raw flags of the slots so far, and where the slot's bytes went.
-#[derive(Drop)]
+#[derive(Clone, Copy)]
 struct Flags {
     verdict: Verdict,
     at: usize,
@@ -32,7 +32,7 @@ struct Flags {
 }
 
 // What a precinct leaves beside the cells: the verdict, and where its bytes went.
-#[derive(Drop)]
+#[derive(Clone, Copy)]
 pub(crate) struct Packed {
     pub(crate) verdict: Verdict,
     pub(crate) bytes: Bytes,

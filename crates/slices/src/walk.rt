@@ -13,7 +13,7 @@ use picture::segment::left;
 use rows::{AMPLE, Check, Field, HOLDS, Row, Verdict};
 
 // Where a walk stands: the verdict, and the next place, or the place of what is refused.
-#[derive(Drop)]
+#[derive(Clone, Copy)]
 pub struct Walked {
     pub verdict: Verdict,
     pub at: usize,

@@ -1,4 +1,6 @@
 // One line of one band: from the data and sign subpackets (C.5.4, C.5.5) through the inverse quantiser (Annex D) into the coefficient cells.
+#![tactic(auto)]
+
 pub mod pairs;
 mod words;
 
@@ -11,7 +13,7 @@ ghost use Rattle.values.specs.Steps.{Chosen, CountIs, SignBit, SignBits, Magnitu
 
 // Where a line stands in the cells, and its precinct's truncation position in its band. Coefficient x has the cell first + x·stride, and the count
 // cell of a code group stands `area` cells behind that of its first coefficient.
-#[derive(Drop)]
+#[derive(Clone, Copy)]
 pub struct Line {
     pub first: usize,
     pub stride: usize,
@@ -22,7 +24,7 @@ pub struct Line {
 
 // What the picture header chooses: the uniform quantiser or the deadzone one, signs in a subpacket of their own (Fs = 1) or with the data,
 // and the bits behind the point, Fq.
-#[derive(Drop)]
+#[derive(Clone, Copy)]
 pub struct Coding {
     pub uniform: bool,
     pub fs: bool,
@@ -30,7 +32,7 @@ pub struct Coding {
 }
 
 // What comes next: a nibble of the data stretch, and a bit of the sign stretch.
-#[derive(Drop)]
+#[derive(Clone, Copy)]
 pub struct Next {
     pub at: usize,
     pub sign: usize,
@@ -129,7 +131,7 @@ fn signed_index(sign: usize, v: usize) -> i64
 }
 
 // The part of a code group that the line has: `count` of its four coefficients, and coefficient k has the cell first + k·stride.
-#[derive(Drop)]
+#[derive(Clone, Copy)]
 struct Group {
     first: usize,
     stride: usize,

@@ -57,7 +57,7 @@ fn four_bits(s: &[u8], i: usize) -> usize
 }
 
 // What is read of a whole group: its sizes, 16 bits each, its signs, and what it takes of both stretches.
-#[derive(Drop)]
+#[derive(Clone, Copy)]
 pub struct Found {
     pub sizes: usize,
     pub signs: usize,

@@ -7,6 +7,8 @@
 //   --damaged-bytes   in spite of damage: the text has that line too, and no marks
 // Stored is NAME.txt, and for --damaged-places and --damaged-bytes NAME.damaged.txt, since a stream of --places or --bytes has its answer beside it. Prints the
 // names of those that differ, how many agreed, and how many had a caption's yes or no stored.
+#![tactic(auto)]
+
 ghost use Rattle.std.specs.Prelude.{◌<◌, ◌≤◌};
 ghost use Rattle.io.specs.Counts.{IsPrefixLen};
 
@@ -47,7 +49,7 @@ fn read_file(name: &[u8], ending: &[u8], needed: bool, to: &mut [u8]) -> usize
 }
 
 // What a word is: that of a mode, or a stream's name.
-#[derive(Drop)]
+#[derive(Clone, Copy)]
 enum Word {
     Mode(Mode),
     Name,
@@ -137,7 +139,7 @@ fn compared_caption(name: &[u8], caption: bool, stored: &[u8]) -> bool {
 }
 
 // Of one stream: 1 where what is said of it is what is stored, and 1 where a caption's yes or no is.
-#[derive(Drop)]
+#[derive(Clone, Copy)]
 struct Outcome {
     agreed: usize,
     told: usize,
@@ -168,7 +170,7 @@ fn outcome_of(mode: Mode, name: &[u8]) -> Outcome
 }
 
 // The mode that the words have come to, and of the streams before how many there were, how many agreed, and of how many a caption's yes or no was stored.
-#[derive(Drop)]
+#[derive(Clone, Copy)]
 struct Tally {
     mode: Mode,
     streams: usize,

@@ -1,6 +1,8 @@
 // Annex E: the inverse 5-3 wavelet transform of one component, in place. Coefficients stand where the samples that they become will be, so
 // nothing is moved and no scratch row is needed: a level filters the lines of a grid that is twice as fine as the one before.
 // The kind of value is a number, 0 for samples and 1 for distance numbers (specs/Kinds), and every loop serves each kind.
+#![tactic(auto)]
+
 ghost use Rattle.std.specs.Prelude.{◌≡◌, ◌+◌, ◌*◌, ◌-◌, ◌^◌, ◌<◌, ◌≤◌, length};
 ghost use Rattle.wavelet.specs.Transform.{low_size};
 ghost use Rattle.wavelet.specs.Places.{Component, Transformed, TransformedBy};

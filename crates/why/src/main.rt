@@ -1,4 +1,6 @@
 // Reads a page from standard input, of at most 16,384 bytes, and prints why it is refused, or where it is coarsest.
+#![tactic(auto)]
+
 use libc::{STDIN_FILENO, STDOUT_FILENO};
 
 fn main() {

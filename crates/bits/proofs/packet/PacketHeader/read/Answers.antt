@@ -1,0 +1,14 @@
+-- `bits::packet::PacketHeader::read` meets its contract: it is four steps of a cursor. Assumes nothing.
+use borrow.Author.Rules.{rules}
+use Rattle.bits.proofs.Headers.{is_header}
+use Rattle.bits.proofs.packet.PacketHeader.read.Goals as goal
+
+pub returns : goal.returns
+returns c =
+    is_header
+    c.requires.1
+    c.new-start.ensures
+    c.read-dr.ensures
+    c.read-dat.ensures
+    c.read-cnt.ensures
+    c.read-sgn.ensures

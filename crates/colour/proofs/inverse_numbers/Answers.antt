@@ -1,0 +1,11 @@
+-- `colour::inverse_numbers` is the pass of kind 1, numbers. Assumes nothing.
+use borrow.Author.Rules.{rules}
+use Rattle.colour.specs.Kinds.{rct_of}
+use Rattle.colour.proofs.inverse_numbers.Goals as goal
+
+pub transform-requires : goal.transform-requires
+transform-requires c = (c.requires.0, λ _. c.requires.1)
+
+pub returns : goal.returns
+unfolding rct_of
+returns c = c.transform.ensures

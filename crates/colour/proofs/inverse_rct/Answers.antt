@@ -1,0 +1,12 @@
+-- `colour::inverse_rct` is the pass of kind 0, samples. Assumes nothing.
+use mathlib.Core.Path.{refl}
+use borrow.Author.Rules.{rules}
+use Rattle.colour.specs.Kinds.{rct_of}
+use Rattle.colour.proofs.inverse_rct.Goals as goal
+
+pub transform-requires : goal.transform-requires
+transform-requires c = (c.requires, λ n. absurd (n refl))
+
+pub returns : goal.returns
+unfolding rct_of
+returns c = c.transform.ensures

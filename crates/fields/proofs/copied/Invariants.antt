@@ -1,0 +1,16 @@
+-- `fields::copied`: letter by letter. Assumes nothing.
+use Prim.Native.Nat.{◌≤◌, ◌-◌}
+use mathlib.Core.Path.{◌≡◌, refl}
+use native.Mathlib.Omega.{arith}
+use lib.ListN.{drop, replicate}
+use lib.Seq.{paste, paste-zero}
+use Rattle.fields.specs.Tables.{joined}
+use Rattle.fields.proofs.Listed.{copy_next}
+use borrow.Author.Rules.{rules}
+use Rattle.fields.proofs.copied.Given as goal
+
+abbrev pub invariant-loop-i : goal.invariant-loop-i
+invariant-loop-i l = (l.i ≤ l.size) × (l.letters ≡ paste (replicate 40 0) 0 (drop l.from joined) l.i)
+
+abbrev pub decreases-loop-i : goal.decreases-loop-i
+decreases-loop-i l = l.size - l.i

@@ -1,0 +1,37 @@
+-- `wavelet::both_levels` is the second loop of Table E.1, from whatever band stands on the grid: the invariant is `BothDescending` from it, the measure
+-- the depth. What does not depend on the band is taken from the one that stands there at entry. Assumes nothing.
+use mathlib.Core.List.{List}
+use Prim.Native.Nat.{◌^◌}
+use lib.IntN.{ℤ}
+use native.Mathlib.Omega.{arith}
+use borrow.Author.Rules.{rules}
+use Rattle.wavelet.specs.Transform.{Band}
+use Rattle.wavelet.specs.Kinds.{steps_of}
+use Rattle.wavelet.specs.Grids.{Gridded}
+use Rattle.wavelet.proofs.Tame.{tame}
+use Rattle.wavelet.proofs.Passes.{samples_le}
+use Rattle.wavelet.proofs.Descent.{BothDescending, both_begins, both_pass, both_goes_on, descent_ends, descent_bound, standing}
+use Rattle.wavelet.proofs.both_levels.Goals as goal
+
+pub loop-d-init : goal.loop-d-init
+loop-d-init c = λ l₀ low g. both_begins c.requires.0 (steps_of c.args.kind) g c.requires.1
+
+pub both_level-requires : goal.both_level-requires
+both_level-requires c =
+    let i = c.loop-d.invariant _ _ (standing c.args.w c.args.h c.args.ny c.args.cells.now) in
+    (both_pass c.requires.0 i.stands.same c.loop-d-test.true (omega (arith, i.most)), samples_le i.within (omega (arith, descent_bound i (omega arith))))
+
+pub loop-d-smaller : goal.loop-d-smaller
+loop-d-smaller c = omega arith
+
+pub loop-d-preserved : goal.loop-d-preserved
+loop-d-preserved c =
+    λ l₀ low g.
+    both_goes_on c.requires.0 (tame c.args.kind) (c.loop-d.invariant l₀ low g) c.loop-d-test.true c.both_level.ensures
+
+pub shape_of-cells : goal.shape_of-cells
+shape_of-cells c =
+    (c.loop-d.invariant _ _ (standing c.args.w c.args.h c.args.ny c.args.cells.now)).stands.same
+
+pub returns : goal.returns
+returns c = record { made = λ {l₀} {low} g. descent_ends (c.loop-d.invariant l₀ low g) c.loop-d-test.false }
