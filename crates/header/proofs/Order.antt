@@ -95,7 +95,7 @@ key_before c d h = pick (dec_lt (begins c) (begins d))
         inr (omega arith, omega arith)
 
 rises_all : (a : ℕ) (t : List Check) → Rises a t → (d : Check) → Memᴰ d t → a ≤ key d
-rises_all a [] h d m = absurd (Memᴰ.not_nil m)
+rises_all a [] h d m = absurd (Memᴰ.not-nil m)
 rises_all a (c ∷ cs) h d m = by (Memᴰ.cases_cons m) (rises_all (key c) cs h.1 d)
   where
     by : (d ≡ c) ⊎ Memᴰ d cs → (Memᴰ d cs → key c ≤ key d) → a ≤ key d
@@ -108,7 +108,7 @@ ordered a (c ∷ cs) h = (λ d m. key_before c d (rises_all (key c) cs h.1 d m),
 
 -- in an ordered table the refusal's check may stand before every other one that is broken: it is the first from the front, and at its field the lowest
 pub first_decides : (t : List Check) (c : Check) → Ordered t → first t ≡ Refused c → (d : Check) → Memᴰ d t → broken d ≡ true → Before c d
-first_decides [] c o e d m b = absurd (Memᴰ.not_nil m)
+first_decides [] c o e d m b = absurd (Memᴰ.not-nil m)
 first_decides (x ∷ xs) c o e d m b = pick (broken x) refl e (Memᴰ.cases_cons m) (λ f n. first_decides xs c o.1 f d n b)
   where
     pick : (y : Bool) → y ≡ broken x → cond y (Refused x) (first xs) ≡ Refused c → (d ≡ x) ⊎ Memᴰ d xs → (first xs ≡ Refused c → Memᴰ d xs → Before c d) → Before c d

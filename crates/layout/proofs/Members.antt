@@ -30,7 +30,7 @@ pub record Turned {A : Type 0} (n x : ℕ) (f : ℕ → List A) (a : A) : Type 0
 
 pub turns_member : {A : Type 0} (n x : ℕ) (f : ℕ → List A) (a : A) → Memᴰ a (turns n x 1 f) → Turned n x f a
 unfolding turns
-turns_member zero x f a m = absurd (Memᴰ.not_nil m)
+turns_member zero x f a m = absurd (Memᴰ.not-nil m)
 turns_member {A} (suc n) x f a m = by (Memᴰ.append_cases (f x) m) (turns_member n (x + 1) f a)
   where
     by : Memᴰ a (f x) ⊎ Memᴰ a (turns n (x + 1) 1 f) → (Memᴰ a (turns n (x + 1) 1 f) → Turned n (x + 1) f a) → Turned (suc n) x f a
@@ -52,7 +52,7 @@ member_turns {A} (suc n) x f a k l h m = by (dec_lt x k) (member_turns n (x + 1)
 
 when_member : {A : Type 0} (t : Bool) (b a : A) → Memᴰ a (when t b) → (t ≡ true) × (a ≡ b)
 when_member true b a m = (refl, Memᴰ.eq_of_singleton m)
-when_member false b a m = absurd (Memᴰ.not_nil m)
+when_member false b a m = absurd (Memᴰ.not-nil m)
 
 member_when : {A : Type 0} (t : Bool) (b : A) → t ≡ true → Memᴰ b (when t b)
 member_when true b e = Memᴰ.head refl
@@ -124,7 +124,7 @@ or_right false u e = e
 
 member_includes : (ys : List Part) (y : Part) (b : ℕ) → Memᴰ y ys → y.band ≡ b → includes ys b ≡ true
 unfolding includes
-member_includes [] y b m e = absurd (Memᴰ.not_nil m)
+member_includes [] y b m e = absurd (Memᴰ.not-nil m)
 member_includes (x ∷ ys) y b m e = by (Memᴰ.cases_cons m) (λ n. member_includes ys y b n e)
   where
     by : (y ≡ x) ⊎ Memᴰ y ys → (Memᴰ y ys → includes ys b ≡ true) → (eqb x.band b || includes ys b) ≡ true
@@ -147,7 +147,7 @@ share_common (x ∷ xs) ys e = by (includes ys x.band) refl e (share_common xs y
 
 pub common_share : (xs ys : List Part) → Common xs ys → share xs ys ≡ true
 unfolding share
-common_share [] ys c = absurd (Memᴰ.not_nil c.here)
+common_share [] ys c = absurd (Memᴰ.not-nil c.here)
 common_share (x ∷ xs) ys c = by (Memᴰ.cases_cons c.here) (common_share xs ys)
   where
     by : (c.one ≡ x) ⊎ Memᴰ c.one xs → (Common xs ys → share xs ys ≡ true) → (includes ys x.band || share xs ys) ≡ true

@@ -24,7 +24,7 @@ use Rattle.layout.proofs.Cells.{Exists, cell_inside, later_column}
 
 pub no_empty : {A : Type 0} (l : List (List A)) → Memᴰ [] (nonempty l) → ⊥
 unfolding nonempty
-no_empty [] m = Memᴰ.not_nil m
+no_empty [] m = Memᴰ.not-nil m
 no_empty ([] ∷ l) m = no_empty l m
 no_empty {A} ((a ∷ p) ∷ l) m = by (Memᴰ.cases_cons m) (λ n. no_empty l n)
   where

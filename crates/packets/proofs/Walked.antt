@@ -44,7 +44,7 @@ module _ (c : Setting) (p : Precinct) (k : ℕ) where
   any_full : any_line c p k (candidates c.shape k) ≡ true → slot c.shape p.row k ≡ [] → ⊥
   any_full e none =
       let m = member_slot c.shape p.row k (there_candidate c p k (any_there c p k (candidates c.shape k) e)) in
-      mathlib.Core.List.Memᴰ.not_nil (rw none at m)
+      mathlib.Core.List.Memᴰ.not-nil (rw none at m)
 
   any_none : any_line c p k (candidates c.shape k) ≡ false → slot c.shape p.row k ≡ []
   unfolding line_at line_of

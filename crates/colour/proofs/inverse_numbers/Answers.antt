@@ -4,7 +4,7 @@ use Rattle.colour.specs.Kinds.{rct_of}
 use Rattle.colour.proofs.inverse_numbers.Goals as goal
 
 pub transform-requires : goal.transform-requires
-transform-requires c = (c.requires.0, λ _. c.requires.1)
+transform-requires c = record { stretches = c.requires.stretches; holding_numbers = λ _. c.requires.holding_numbers }
 
 pub returns : goal.returns
 unfolding rct_of

@@ -5,7 +5,7 @@ use Rattle.colour.specs.Kinds.{rct_of}
 use Rattle.colour.proofs.inverse_rct.Goals as goal
 
 pub transform-requires : goal.transform-requires
-transform-requires c = (c.requires, λ n. absurd (n refl))
+transform-requires c = record { stretches = c.requires; holding_numbers = λ n. absurd (n refl) }
 
 pub returns : goal.returns
 unfolding rct_of

@@ -6,11 +6,11 @@ use Rattle.colour.proofs.pixel_at.Goals as goal
 
 pub pixel_of-o-requires : goal.pixel_of-o-requires
 pixel_of-o-requires c =
-    let f = fitting c.requires.1.0 in
-    simp (to_z-of_z, f.i₀, f.i₁, f.i₂) c.requires.1
+    let f = fitting c.requires.small.0 in
+    simp (to_z-of_z, f.i₀, f.i₁, f.i₂) c.requires.small
 
 pub returns : goal.returns
 returns c =
-    let f = fitting c.requires.1.0 in
-    let o = fitted c.requires.1.0 c.args.kind in
+    let f = fitting c.requires.small.0 in
+    let o = fitted c.requires.small.0 c.args.kind in
     rw (simp (to_z-of_z, f.i₀, f.i₁, f.i₂) at c.pixel_of-o.ensures) (simp (to_z-of_z, o.o₀, o.o₁, o.o₂))

@@ -10,17 +10,18 @@ use Rattle.colour.specs.Rct.{numbers_rct}
 use Rattle.colour.specs.Kinds.{held, sizes, raised_rct}
 use Rattle.colour.specs.declared.Pixel.{Pixel}
 use Rattle.colour.proofs.Laws.{fitting, number_cast, numbers_most}
+use Rattle.colour.proofs.raise.Goals.{After-numbers_rct-e}
 use Rattle.colour.proofs.raise.Goals as goal
 
 -- what rule 3 gave
-module _ (c : tie.After-numbers-rct) where
-  made : c.numbers-rct.result ≡ numbers_rct (sizes c.before.before.before.before.before.before.before.args.i)
+module _ (c : After-numbers_rct-e) where
+  made : c.numbers_rct-e.result ≡ numbers_rct (sizes c.args.i)
   made =
-      let f = fitting c.before.before.before.before.before.before.before.requires.0 in
-      simp (to_z-of_z, f.i₀, f.i₁, f.i₂) at c.numbers-rct.ensures
+      let f = fitting c.requires.0 in
+      simp (to_z-of_z, f.i₀, f.i₁, f.i₂) at c.numbers_rct-e.ensures
 
-  most : (c.numbers-rct.result.c0 ≤ 3 * 2 ^ 60) × (c.numbers-rct.result.c1 ≤ 3 * 2 ^ 60) × (c.numbers-rct.result.c2 ≤ 3 * 2 ^ 60)
-  most = let s = c.before.before.before.before.before.before.before in rw made (numbers_most (sizes s.args.i) (s.requires.0.c0, s.requires.0.c1, s.requires.0.c2))
+  most : (c.numbers_rct-e.result.c0 ≤ 3 * 2 ^ 60) × (c.numbers_rct-e.result.c1 ≤ 3 * 2 ^ 60) × (c.numbers_rct-e.result.c2 ≤ 3 * 2 ^ 60)
+  most = rw made (numbers_most (sizes c.args.i) (c.requires.0.c0, c.requires.0.c1, c.requires.0.c2))
 
 pub overflow_cast-i : goal.overflow_cast-i
 overflow_cast-i c = number_cast c.args.i.c0 c.requires.0.c0 (ap (λ (p : Pixel). p.c0) c.requires.1)
@@ -33,17 +34,17 @@ overflow_cast-i-3 c =
     number_cast c.args.i.c2 c.requires.0.c2 (ap (λ (p : Pixel). p.c2) c.requires.1)
 
 pub overflow_cast-result : goal.overflow_cast-result
-overflow_cast-result c = small_fits _ (omega (arith, most c))
+overflow_cast-result c = small_fits _ (omega (arith, most (goal.at.overflow_cast-result c).After-numbers_rct-e))
 
 pub overflow_cast-result-2 : goal.overflow_cast-result-2
-overflow_cast-result-2 c = small_fits _ (omega (arith, most c))
+overflow_cast-result-2 c = small_fits _ (omega (arith, most (goal.at.overflow_cast-result-2 c).After-numbers_rct-e))
 
 pub overflow_cast-result-3 : goal.overflow_cast-result-3
-overflow_cast-result-3 c = small_fits _ (omega (arith, most c))
+overflow_cast-result-3 c = small_fits _ (omega (arith, most (goal.at.overflow_cast-result-3 c).After-numbers_rct-e))
 
 pub returns : goal.returns
 unfolding raised_rct
 returns c =
-    let h = most c in
+    let h = most (goal.at.returns c).After-numbers_rct-e in
     (λ i. record { c0 = to_z_pos w64 {n = c.numbers_rct-e.result.c0} (omega arith) i; c1 = to_z_pos w64 {n = c.numbers_rct-e.result.c1} (omega arith) i; c2 = to_z_pos w64 {n = c.numbers_rct-e.result.c2} (omega arith) i })
-    ∙ ap held (made c)
+    ∙ ap held (made (goal.at.returns c).After-numbers_rct-e)

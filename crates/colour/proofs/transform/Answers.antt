@@ -13,16 +13,13 @@ loop-x-init c = (omega arith, pass_starts)
 
 pub pixel_at-requires : goal.pixel_at-requires
 pixel_at-requires c =
-    let s = c.requires.0 in
+    let s = c.requires.stretches in
     let t = c.loop-x.invariant.1 in
-    let b = c.loop-x-test.true in (
-      omega (arith, s.inside, t.same),
-      (rw (pass_here s t b) (s.small _ b), λ k. subst Holds (sym (pass_here s t b)) ((c.requires.1 k).holds _ b)),
-    )
+    let b = c.loop-x-test.true in record { p_in_bounds = omega (arith, s.inside, t.same); small = (rw (pass_here s t b) (s.small _ b), λ k. subst Holds (sym (pass_here s t b)) ((c.requires.holding_numbers k).holds _ b)) }
 
 pub loop-x-preserved : goal.loop-x-preserved
 loop-x-preserved c =
-    (omega arith, rw c.pixel_at.ensures (pass_goes_on c.requires.0 c.loop-x.invariant.1 c.loop-x-test.true))
+    (omega arith, rw c.pixel_at.ensures (pass_goes_on c.requires.stretches c.loop-x.invariant.1 c.loop-x-test.true))
 
 pub shape_of-work : goal.shape_of-work
 shape_of-work c = c.loop-x.invariant.1.same

@@ -12,21 +12,6 @@ use Rattle.fields.proofs.copied.Goals as goal
 pub loop-i-init : goal.loop-i-init
 loop-i-init c = (omega arith, paste-zero (replicate 40 0) 0 (drop c.args.from joined))
 
-pub overflow_add-from : goal.overflow_add-from
-overflow_add-from c = search rules
-
-pub letter-requires : goal.letter-requires
-letter-requires c = search rules
-
-pub bounds-letters-i : goal.bounds-letters-i
-bounds-letters-i c = search rules
-
-pub overflow_add-i : goal.overflow_add-i
-overflow_add-i c = search rules
-
-pub loop-i-smaller : goal.loop-i-smaller
-loop-i-smaller c = search rules
-
 pub loop-i-preserved : goal.loop-i-preserved
 loop-i-preserved c =
     let l = c.loop-i in
@@ -35,4 +20,4 @@ loop-i-preserved c =
 pub returns : goal.returns
 returns c =
     let e : c.loop-i.i ≡ c.args.size = omega arith in
-    (refl, rw e at c.loop-i.invariant.1)
+    record { size_value = refl; letters_value = rw e at c.loop-i.invariant.1 }

@@ -27,10 +27,7 @@ copied-requires c =
     let f = c.args.f in
     let number = c.number_of-n.ensures in
     let first = c.begin-from.ensures in
-    let last = c.begin-end.ensures in (
-      omega (arith, begins_there f number first last, ends_there f number first last, name_inside f, letters_in_all),
-      omega (arith, ends_there f number first last, name_ends f),
-    )
+    let last = c.begin-end.ensures in record { size_bound = omega (arith, begins_there f number first last, ends_there f number first last, name_inside f, letters_in_all); size_bound_2 = omega (arith, ends_there f number first last, name_ends f) }
 
 pub returns : goal.returns
 returns c =
@@ -39,7 +36,4 @@ returns c =
     let first = c.begin-from.ensures in
     let last = c.begin-end.ensures in
     let size = sized f number first last in
-    let from = begins_there f number first last in (
-      c.copied.ensures.0 ∙ size,
-      c.copied.ensures.1 ∙ (λ i. paste (replicate 40 0) 0 (drop (from i) joined) (size i)) ∙ name_copied f,
-    )
+    let from = begins_there f number first last in record { size_value = c.copied.ensures.size_value ∙ size; letters_value = c.copied.ensures.letters_value ∙ (λ i. paste (replicate 40 0) 0 (drop (from i) joined) (size i)) ∙ name_copied f }

@@ -9,4 +9,4 @@ near_of-requires c = (c.requires.0, rw c.scale_of-s.ensures (usable c.requires.1
 
 pub returns : goal.returns
 unfolding distance
-returns c = rw c.scale_of-s.ensures at c.Near-of.ensures
+returns c = rw c.scale_of-s.ensures at c.near_of.ensures

@@ -16,6 +16,10 @@ use Rattle.output.specs.Constants.{output_by_scale}
 use Rattle.output.proofs.Laws.{output_by_scale_lem, usable, pass_goes}
 use Rattle.output.proofs.linear_output.Given as goal
 
+-- what each place becomes
+abbrev pub given : List ℤ → ℕ → ℕ → ℕ → ℕ → ℕ → ℕ
+given work kind bw b x _ = output_of kind bw b (cell work x)
+
 abbrev pub invariant-loop-x : goal.invariant-loop-x
 invariant-loop-x l = (l.x ≤ length l.work) × (l.out ≡ mapped (given l.work l.kind l.bw l.b) l.x l.initial.out)
 

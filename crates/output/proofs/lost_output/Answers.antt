@@ -11,16 +11,14 @@ use borrow.Author.Rules.{rules}
 use Rattle.whole.proofs.Passes.{mapped, mapped_none, mapped_length, mapped_here, mapped_all}
 use Rattle.output.specs.Linear.{lost_distance}
 use Rattle.output.proofs.Laws.{pass_goes}
+use Rattle.output.proofs.lost_output.Goals.{At-loop-x}
+use Rattle.output.proofs.lost_output.Invariants.{losses}
 use Rattle.output.proofs.lost_output.Goals as goal
 
--- what each place becomes
-abbrev losses : List ℕ → ℕ → ℕ → ℕ → ℕ
-losses marks b x d = lost_distance b (get_or marks x 0) d
-
-long : (c : tie.At-loop invariant-loop decreases-loop) → length c.loop.out ≡ length c.before.before.before.before.args.out.now
+long : (c : At-loop-x) → length c.loop-x.out ≡ length c.args.out.now
 long c =
-    let a = c.before.before.before.before.args in
-    ap length c.loop.invariant.1 ∙ mapped_length (losses a.marks.now a.b) c.loop.x a.out.now
+    let a = c.args in
+    ap length c.loop-x.invariant.1 ∙ mapped_length (losses a.marks.now a.b) c.loop-x.x a.out.now
 
 pub overflow_sub-top : goal.overflow_sub-top
 overflow_sub-top c = omega (arith, c.power.ensures, pow_pos c.args.b)
@@ -32,10 +30,10 @@ pub loop-x-init : goal.loop-x-init
 loop-x-init c = (omega arith, sym (mapped_none _ _))
 
 pub bounds-out-x : goal.bounds-out-x
-bounds-out-x c = omega (arith, long c)
+bounds-out-x c = omega (arith, long (goal.at.bounds-out-x c).At-loop-x)
 
 pub bounds-out-x-in-loop-x : goal.bounds-out-x-in-loop-x
-bounds-out-x-in-loop-x c = omega (arith, long c)
+bounds-out-x-in-loop-x c = omega (arith, long (goal.at.bounds-out-x-in-loop-x c).At-loop-x)
 
 pub loop-x-preserved : goal.loop-x-preserved
 loop-x-preserved c =
@@ -48,7 +46,7 @@ loop-x-preserved c =
     (omega arith, pass_goes g x a.out.now 0 c.loop-x.invariant.1 gave (omega arith))
 
 pub shape_of-out : goal.shape_of-out
-shape_of-out c = long c
+shape_of-out c = long (goal.at.shape_of-out c).At-loop-x
 
 pub returns : goal.returns
 returns c = c.loop-x.invariant.1 ∙ mapped_all _ _ _ (omega arith)

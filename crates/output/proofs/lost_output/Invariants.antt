@@ -13,6 +13,10 @@ use Rattle.output.specs.Linear.{lost_distance}
 use Rattle.output.proofs.Laws.{pass_goes}
 use Rattle.output.proofs.lost_output.Given as goal
 
+-- what each place becomes
+abbrev pub losses : List ℕ → ℕ → ℕ → ℕ → ℕ
+losses marks b x d = lost_distance b (get_or marks x 0) d
+
 abbrev pub invariant-loop-x : goal.invariant-loop-x
 invariant-loop-x l = (l.x ≤ length l.marks) × (l.out ≡ mapped (losses l.marks l.b) l.x l.initial.out)
 

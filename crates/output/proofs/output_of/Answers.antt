@@ -30,4 +30,4 @@ returns-then-kind-eq0 c =
 pub returns-else-kind-eq0 : goal.returns-else-kind-eq0
 returns-else-kind-eq0 c =
     rw (ne_eqb c.args.kind 0 (λ e. c.if-kind-eq0.false e))
-    (c.Near-of.ensures ∙ ap (λ (z : ℤ). number_by_scale c.args.s (nat_abs z)) (as_read c.args.v c.requires.0))
+    (c.near_of.ensures ∙ ap (λ (z : ℤ). number_by_scale c.args.s (nat_abs z)) (as_read c.args.v c.requires.0))

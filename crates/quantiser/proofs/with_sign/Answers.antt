@@ -7,9 +7,10 @@ use mir.Syntax.{w64}
 use mir.Val.{to_z, of_z}
 use mir.Facts.{to_z_pos}
 use Rattle.whole.proofs.Machine.{back64, small_fits, read_small, size_neg, zero_less, neg_sign, pos_sign}
+use Rattle.quantiser.proofs.with_sign.Goals.{Start}
 use Rattle.quantiser.proofs.with_sign.Goals as goal
 
-module _ (c : tie.Start) where
+module _ (c : Start) where
   abbrev n : ℕ
   n = c.args.n
 
@@ -20,11 +21,11 @@ module _ (c : tie.Start) where
   neg_small = rw (size_neg (pos n)) c.requires
 
 pub overflow_sub-result : goal.overflow_sub-result
-overflow_sub-result c = rw (to_z_pos w64 c.requires, zero_less (pos (n c))) (small_fits (neg_ℤ (pos (n c))) (neg_small c))
+overflow_sub-result c = rw (to_z_pos w64 c.requires, zero_less (pos (n (goal.at.overflow_sub-result c).Start))) (small_fits (neg_ℤ (pos (n (goal.at.overflow_sub-result c).Start))) (neg_small (goal.at.overflow_sub-result c).Start))
 
 pub returns-then-x-lt0 : goal.returns-then-x-lt0
 returns-then-x-lt0 c =
-    rw (to_z_pos w64 c.requires, zero_less (pos (n c)), read_small (neg_ℤ (pos (n c))) (neg_small c)) (sym (neg_sign c.args.x (n c) (rw (read c) at c.if-x-lt0.true)))
+    rw (to_z_pos w64 c.requires, zero_less (pos (n (goal.at.returns-then-x-lt0 c).Start)), read_small (neg_ℤ (pos (n (goal.at.returns-then-x-lt0 c).Start))) (neg_small (goal.at.returns-then-x-lt0 c).Start)) (sym (neg_sign c.args.x (n (goal.at.returns-then-x-lt0 c).Start) (rw (read (goal.at.returns-then-x-lt0 c).Start) at c.if-x-lt0.true)))
 
 pub returns-else-x-lt0 : goal.returns-else-x-lt0
-returns-else-x-lt0 c = to_z_pos w64 c.requires ∙ sym (pos_sign c.args.x (n c) (rw (read c) at c.if-x-lt0.false))
+returns-else-x-lt0 c = to_z_pos w64 c.requires ∙ sym (pos_sign c.args.x (n (goal.at.returns-else-x-lt0 c).Start) (rw (read (goal.at.returns-else-x-lt0 c).Start) at c.if-x-lt0.false))

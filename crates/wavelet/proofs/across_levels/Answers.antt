@@ -8,24 +8,24 @@ use Rattle.wavelet.proofs.Rows.{AcrossDone, across_begins, row_room, row_taken, 
 use Rattle.wavelet.proofs.across_levels.Goals as goal
 
 pub low_size-m-requires : goal.low_size-m-requires
-low_size-m-requires c = (c.requires.0.sheet.low, omega (arith, c.requires.0.fewer))
+low_size-m-requires c = (c.requires.component.sheet.low, omega (arith, c.requires.component.fewer))
 
 pub overflow_shl-step : goal.overflow_shl-step
-overflow_shl-step c = omega (arith, c.requires.0.fewer)
+overflow_shl-step c = omega (arith, c.requires.component.fewer)
 
 pub loop-q-init : goal.loop-q-init
-loop-q-init c = across_begins c.requires.0 c.requires.1 (steps_of c.args.kind)
+loop-q-init c = across_begins c.requires.component c.requires.samples_within (steps_of c.args.kind)
 
 pub overflow_mul-q : goal.overflow_mul-q
 overflow_mul-q c =
     let i = c.loop-q.invariant in
     let t = rw c.low_size-m.ensures at c.loop-q-test.true in
-    rw (row_shift c.args.ny c.requires.0.sheet.narrow (omega (arith, c.requires.0.fewer))) (omega (arith, c.well_formed.0, i.onto.same, row_room c.requires.0 c.requires.1 i t))
+    rw (row_shift c.args.ny c.requires.component.sheet.narrow (omega (arith, c.requires.component.fewer))) (omega (arith, c.well_formed.0, i.onto.same, row_room c.requires.component c.requires.samples_within i t))
 
 pub row_levels-requires : goal.row_levels-requires
 row_levels-requires c =
     let t = rw c.low_size-m.ensures at c.loop-q-test.true in
-    rw (row_shift c.args.ny c.requires.0.sheet.narrow (omega (arith, c.requires.0.fewer))) (row_taken c.requires.0 c.requires.1 c.loop-q.invariant t)
+    rw (row_shift c.args.ny c.requires.component.sheet.narrow (omega (arith, c.requires.component.fewer))) (row_taken c.requires.component c.requires.samples_within c.loop-q.invariant t)
 
 pub loop-q-smaller : goal.loop-q-smaller
 loop-q-smaller c = omega arith
@@ -33,12 +33,12 @@ loop-q-smaller c = omega arith
 pub loop-q-preserved : goal.loop-q-preserved
 loop-q-preserved c =
     let t = rw c.low_size-m.ensures at c.loop-q-test.true in
-    across_goes_on c.requires.0 c.requires.1 c.loop-q.invariant t
-    (rw (row_shift c.args.ny c.requires.0.sheet.narrow (omega (arith, c.requires.0.fewer))) at c.row_levels.ensures)
+    across_goes_on c.requires.component c.requires.samples_within c.loop-q.invariant t
+    (rw (row_shift c.args.ny c.requires.component.sheet.narrow (omega (arith, c.requires.component.fewer))) at c.row_levels.ensures)
 
 pub shape_of-cells : goal.shape_of-cells
 shape_of-cells c = c.loop-q.invariant.onto.same
 
 pub returns : goal.returns
 returns c =
-    across_ends c.requires.0 c.requires.1 c.loop-q.invariant (rw c.low_size-m.ensures at c.loop-q-test.false)
+    across_ends c.requires.component c.requires.samples_within c.loop-q.invariant (rw c.low_size-m.ensures at c.loop-q-test.false)

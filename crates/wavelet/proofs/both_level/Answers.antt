@@ -6,24 +6,24 @@ use Rattle.wavelet.proofs.Passes.{level_grid, level_cells, level_made, row_shift
 use Rattle.wavelet.proofs.both_level.Goals as goal
 
 pub low_size-m-requires : goal.low_size-m-requires
-low_size-m-requires c = (c.requires.0.sheet.narrow, c.requires.0.depth)
+low_size-m-requires c = (c.requires.pass.sheet.narrow, c.requires.pass.depth)
 
 pub low_size-n-requires : goal.low_size-n-requires
-low_size-n-requires c = (c.requires.0.sheet.low, c.requires.0.depth)
+low_size-n-requires c = (c.requires.pass.sheet.low, c.requires.pass.depth)
 
 pub overflow_shl-d : goal.overflow_shl-d
-overflow_shl-d c = omega (arith, c.requires.0.depth)
+overflow_shl-d c = omega (arith, c.requires.pass.depth)
 
 pub overflow_shl-w : goal.overflow_shl-w
-overflow_shl-w c = omega (arith, c.requires.0.depth)
+overflow_shl-w c = omega (arith, c.requires.pass.depth)
 
 pub level-requires : goal.level-requires
 level-requires c =
-    rw (row_shift c.args.d c.requires.0.sheet.narrow c.requires.0.depth, column_shift c.args.d c.requires.0.depth, c.low_size-m.ensures, c.low_size-n.ensures)
-    (level_grid c.requires.0, level_cells c.requires.0 c.requires.1)
+    rw (row_shift c.args.d c.requires.pass.sheet.narrow c.requires.pass.depth, column_shift c.args.d c.requires.pass.depth, c.low_size-m.ensures, c.low_size-n.ensures)
+    (level_grid c.requires.pass, level_cells c.requires.pass c.requires.samples_within)
 
 pub returns : goal.returns
 returns c =
-    level_made c.requires.0 (steps_of c.args.kind)
-    (rw (row_shift c.args.d c.requires.0.sheet.narrow c.requires.0.depth, column_shift c.args.d c.requires.0.depth, c.low_size-m.ensures, c.low_size-n.ensures)
+    level_made c.requires.pass (steps_of c.args.kind)
+    (rw (row_shift c.args.d c.requires.pass.sheet.narrow c.requires.pass.depth, column_shift c.args.d c.requires.pass.depth, c.low_size-m.ensures, c.low_size-n.ensures)
     at c.level.ensures)

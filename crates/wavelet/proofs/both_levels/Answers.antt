@@ -14,12 +14,12 @@ use Rattle.wavelet.proofs.Descent.{BothDescending, both_begins, both_pass, both_
 use Rattle.wavelet.proofs.both_levels.Goals as goal
 
 pub loop-d-init : goal.loop-d-init
-loop-d-init c = λ l₀ low g. both_begins c.requires.0 (steps_of c.args.kind) g c.requires.1
+loop-d-init c = λ l₀ low g. both_begins c.requires.component (steps_of c.args.kind) g c.requires.samples_within
 
 pub both_level-requires : goal.both_level-requires
 both_level-requires c =
     let i = c.loop-d.invariant _ _ (standing c.args.w c.args.h c.args.ny c.args.cells.now) in
-    (both_pass c.requires.0 i.stands.same c.loop-d-test.true (omega (arith, i.most)), samples_le i.within (omega (arith, descent_bound i (omega arith))))
+    record { pass = both_pass c.requires.component i.stands.same c.loop-d-test.true (omega (arith, i.most)); samples_within = samples_le i.within (omega (arith, descent_bound i (omega arith))) }
 
 pub loop-d-smaller : goal.loop-d-smaller
 loop-d-smaller c = omega arith
@@ -27,7 +27,7 @@ loop-d-smaller c = omega arith
 pub loop-d-preserved : goal.loop-d-preserved
 loop-d-preserved c =
     λ l₀ low g.
-    both_goes_on c.requires.0 (tame c.args.kind) (c.loop-d.invariant l₀ low g) c.loop-d-test.true c.both_level.ensures
+    both_goes_on c.requires.component (tame c.args.kind) (c.loop-d.invariant l₀ low g) c.loop-d-test.true c.both_level.ensures
 
 pub shape_of-cells : goal.shape_of-cells
 shape_of-cells c =

@@ -5,9 +5,9 @@ use Rattle.wavelet.proofs.Rising.{numbers_samples, numbers_made}
 use Rattle.wavelet.proofs.inverse_numbers.Goals as goal
 
 pub transform-requires : goal.transform-requires
-transform-requires c = (c.requires.0, numbers_samples c.requires.1)
+transform-requires c = record { component = c.requires.component; samples_within = numbers_samples c.requires.numbers_within }
 
 pub returns : goal.returns
 unfolding steps_of
 returns c =
-    numbers_made c.requires.1 c.requires.0.parts c.transform.ensures
+    numbers_made c.requires.numbers_within c.requires.component.parts c.transform.ensures

@@ -7,8 +7,8 @@ use Rattle.wavelet.proofs.transform.Goals as goal
 pub both_levels-requires : goal.both_levels-requires
 both_levels-requires c =
     let first = c.across_levels.ensures in
-    (rw first.made.same c.requires.0, first.within)
+    record { component = rw first.made.same c.requires.component; samples_within = first.within }
 
 pub returns : goal.returns
 returns c =
-    table_made c.requires.0 (steps_of c.args.kind) c.across_levels.ensures c.both_levels.ensures
+    table_made c.requires.component (steps_of c.args.kind) c.across_levels.ensures c.both_levels.ensures

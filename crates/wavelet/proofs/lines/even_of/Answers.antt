@@ -13,23 +13,23 @@ quarter-requires c = simp (to_z-of_z, c.ranges.l, c.ranges.r) (summable c.requir
 
 pub overflow_sub-result : goal.overflow_sub-result
 overflow_sub-result c =
-    rw (back64 c.quarter.result c.quarter.type-inv, c.quarter.ensures) (simp (to_z-of_z, c.ranges.x, c.ranges.l, c.ranges.r) (even_fits c.requires))
+    rw (back64 c.quarter.result c.quarter.type_inv, c.quarter.ensures) (simp (to_z-of_z, c.ranges.x, c.ranges.l, c.ranges.r) (even_fits c.requires))
 
 pub quarter-requires-else-kind-eq0 : goal.quarter-requires-else-kind-eq0
 quarter-requires-else-kind-eq0 c = simp (to_z-of_z, c.ranges.l, c.ranges.r) (summable c.requires _ (omega arith))
 
 pub overflow_add-result : goal.overflow_add-result
 overflow_add-result c =
-    rw (back64 c.quarter-else-kind-eq0.result c.quarter-else-kind-eq0.type-inv, c.quarter-else-kind-eq0.ensures) (simp (to_z-of_z, c.ranges.x, c.ranges.l, c.ranges.r) (even_rise_fits c.requires))
+    rw (back64 c.quarter-else-kind-eq0.result c.quarter-else-kind-eq0.type_inv, c.quarter-else-kind-eq0.ensures) (simp (to_z-of_z, c.ranges.x, c.ranges.l, c.ranges.r) (even_rise_fits c.requires))
 
 pub returns-then-kind-eq0 : goal.returns-then-kind-eq0
 unfolding steps_of samples
 returns-then-kind-eq0 c =
-    rw (eq-eqb c.args.kind 0 c.if-kind-eq0.true, back64 c.quarter.result c.quarter.type-inv, c.quarter.ensures)
+    rw (eq-eqb c.args.kind 0 c.if-kind-eq0.true, back64 c.quarter.result c.quarter.type_inv, c.quarter.ensures)
     (simp (to_z-of_z, c.ranges.x, c.ranges.l, c.ranges.r, even_fits c.requires))
 
 pub returns-else-kind-eq0 : goal.returns-else-kind-eq0
 unfolding steps_of rises
 returns-else-kind-eq0 c =
-    rw (ne_eqb c.args.kind 0 c.if-kind-eq0.false, back64 c.quarter-else-kind-eq0.result c.quarter-else-kind-eq0.type-inv, c.quarter-else-kind-eq0.ensures)
+    rw (ne_eqb c.args.kind 0 c.if-kind-eq0.false, back64 c.quarter-else-kind-eq0.result c.quarter-else-kind-eq0.type_inv, c.quarter-else-kind-eq0.ensures)
     (simp (to_z-of_z, c.ranges.x, c.ranges.l, c.ranges.r, even_rise_fits c.requires))

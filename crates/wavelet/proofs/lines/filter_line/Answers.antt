@@ -28,7 +28,7 @@ even_of-first-requires c = simp (back64, c.even_of-arg-1.given, c.high-1.given) 
 pub pairs_of_line-requires : goal.pairs_of_line-requires
 pairs_of_line-requires c =
     let e = c.even_of-first in
-    (c.requires, rw (back64 e.result e.type-inv, e.ensures) (simp (back64, c.even_of-arg-1.given, c.high-1.given) (first_is c.requires (steps_of c.args.kind))))
+    record { line = c.requires; first_value = rw (back64 e.result e.type_inv, e.ensures) (simp (back64, c.even_of-arg-1.given, c.high-1.given) (first_is c.requires (steps_of c.args.kind))) }
 
 pub overflow_sub-odd : goal.overflow_sub-odd
 overflow_sub-odd c = omega (arith, c.requires.two)
@@ -51,7 +51,7 @@ lift_one-requires c =
     let p = c.pairs_of_line.ensures in
     let e = c.if-n-eq0.true in
     let i = end_inside (tame c.args.kind) c.requires _ (omega (arith, c.requires.two)) p (omega (arith, c.requires.two)) in
-    ((i.1, omega (arith, i), omega (arith, i)), last_small (tame c.args.kind) c.requires _ (omega (arith, c.requires.two)) p (omega (arith, c.requires.two, e)))
+    record { c_in_bounds = (i.1, omega (arith, i), omega (arith, i)); small = last_small (tame c.args.kind) c.requires _ (omega (arith, c.requires.two)) p (omega (arith, c.requires.two, e)) }
 
 pub pair_one-requires : goal.pair_one-requires
 pair_one-requires c =
@@ -59,7 +59,7 @@ pair_one-requires c =
     let T = tame c.args.kind in
     let i = end_inside T c.requires _ (omega (arith, c.requires.two)) p (omega (arith, c.requires.two)) in
     let e = c.if-n-eq0.false in
-    ((c.requires.stride_up, i.0, end_room T c.requires _ (omega (arith, c.requires.two)) p (omega (arith, c.requires.two, e)), i.1), end_small T c.requires _ (omega (arith, c.requires.two)) p (omega (arith, c.requires.two, e)))
+    record { t_nonzero = (c.requires.stride_up, i.0, end_room T c.requires _ (omega (arith, c.requires.two)) p (omega (arith, c.requires.two, e)), i.1); small_pair = end_small T c.requires _ (omega (arith, c.requires.two)) p (omega (arith, c.requires.two, e)) }
 
 pub returns-then-n-eq0 : goal.returns-then-n-eq0
 returns-then-n-eq0 c =
@@ -70,4 +70,4 @@ returns-then-n-eq0 c =
 pub returns-else-n-eq0 : goal.returns-else-n-eq0
 returns-else-n-eq0 c =
     let p = c.pairs_of_line.ensures in
-    end_ends (tame c.args.kind) c.requires _ (omega (arith, c.requires.two)) p (omega (arith, c.requires.two, c.if-n-eq0.false)) c.Pair-one.ensures
+    end_ends (tame c.args.kind) c.requires _ (omega (arith, c.requires.two)) p (omega (arith, c.requires.two, c.if-n-eq0.false)) c.pair_one.ensures

@@ -34,7 +34,8 @@ level_end-requires c =
     (midway c.requires.0 c.requires.1 c.level_top.ensures _ c.loop-j.invariant.0 c.loop-j.invariant.2, c.loop-j-test.false)
 
 pub shape_of-cells : goal.shape_of-cells
-shape_of-cells c = (returns c).same
+shape_of-cells c =
+    (level_ends _ _ _ _ _ _ (c.level_end.ensures.goes c.requires.0 c.requires.1 (c.loop-j.invariant.2.goes c.requires.0 c.requires.1 c.level_top.ensures))).same
 
 pub returns : goal.returns
 returns c =

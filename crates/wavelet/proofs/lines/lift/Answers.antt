@@ -28,7 +28,7 @@ overflow_add-r c = omega (arith, c.well_formed.0, c.requires.inside c.loop-j.j c
 pub lift_one-requires : goal.lift_one-requires
 lift_one-requires c =
     let i = c.loop-j.invariant in
-    (turn_inside (steps_of c.args.kind) c.args.b c.requires i.0 c.loop-j-test.true, turn_small (steps_of c.args.kind) c.args.b c.requires i.0 c.loop-j-test.true)
+    record { c_in_bounds = turn_inside (steps_of c.args.kind) c.args.b c.requires i.0 c.loop-j-test.true; small = turn_small (steps_of c.args.kind) c.args.b c.requires i.0 c.loop-j-test.true }
 
 pub loop-j-preserved : goal.loop-j-preserved
 loop-j-preserved c =

@@ -5,5 +5,5 @@ use Rattle.wavelet.proofs.lines.lift_one.Goals as goal
 
 pub returns : goal.returns
 returns c =
-    rw (back64 c.step_of.result c.step_of.type-inv, c.step_of.ensures)
+    rw (back64 c.step_of.result c.step_of.type_inv, c.step_of.ensures)
     (simp (back64, c.step_of-arg-1.given, c.step_of-arg-2-1.given, c.step_of-arg-3-1.given))

@@ -14,23 +14,23 @@ half-requires c = simp (to_z-of_z, c.ranges.l, c.ranges.r) (summable c.requires 
 
 pub overflow_add-result : goal.overflow_add-result
 overflow_add-result c =
-    rw (back64 c.half.result c.half.type-inv, c.half.ensures, +ℤ_idr) (simp (to_z-of_z, c.ranges.x, c.ranges.l, c.ranges.r) (odd_fits c.requires))
+    rw (back64 c.half.result c.half.type_inv, c.half.ensures, +ℤ_idr) (simp (to_z-of_z, c.ranges.x, c.ranges.l, c.ranges.r) (odd_fits c.requires))
 
 pub half-requires-else-kind-eq0 : goal.half-requires-else-kind-eq0
 half-requires-else-kind-eq0 c = simp (to_z-of_z, c.ranges.l, c.ranges.r) (summable c.requires _ (omega arith))
 
 pub overflow_add-result-else-kind-eq0 : goal.overflow_add-result-else-kind-eq0
 overflow_add-result-else-kind-eq0 c =
-    rw (back64 c.half-else-kind-eq0.result c.half-else-kind-eq0.type-inv, c.half-else-kind-eq0.ensures) (simp (to_z-of_z, c.ranges.x, c.ranges.l, c.ranges.r) (odd_rise_fits c.requires))
+    rw (back64 c.half-else-kind-eq0.result c.half-else-kind-eq0.type_inv, c.half-else-kind-eq0.ensures) (simp (to_z-of_z, c.ranges.x, c.ranges.l, c.ranges.r) (odd_rise_fits c.requires))
 
 pub returns-then-kind-eq0 : goal.returns-then-kind-eq0
 unfolding steps_of samples
 returns-then-kind-eq0 c =
-    rw (eq-eqb c.args.kind 0 c.if-kind-eq0.true, back64 c.half.result c.half.type-inv, c.half.ensures, +ℤ_idr)
+    rw (eq-eqb c.args.kind 0 c.if-kind-eq0.true, back64 c.half.result c.half.type_inv, c.half.ensures, +ℤ_idr)
     (simp (to_z-of_z, c.ranges.x, c.ranges.l, c.ranges.r, odd_fits c.requires))
 
 pub returns-else-kind-eq0 : goal.returns-else-kind-eq0
 unfolding steps_of rises
 returns-else-kind-eq0 c =
-    rw (ne_eqb c.args.kind 0 c.if-kind-eq0.false, back64 c.half-else-kind-eq0.result c.half-else-kind-eq0.type-inv, c.half-else-kind-eq0.ensures)
+    rw (ne_eqb c.args.kind 0 c.if-kind-eq0.false, back64 c.half-else-kind-eq0.result c.half-else-kind-eq0.type_inv, c.half-else-kind-eq0.ensures)
     (simp (to_z-of_z, c.ranges.x, c.ranges.l, c.ranges.r, odd_rise_fits c.requires))

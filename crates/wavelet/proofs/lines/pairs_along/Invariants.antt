@@ -12,7 +12,7 @@ use borrow.Author.Rules.{rules}
 use Rattle.wavelet.proofs.lines.pairs_along.Given as goal
 
 abbrev pub invariant-loop-j : goal.invariant-loop-j
-invariant-loop-j l = Running (steps_of l.kind) l.base l.stride l.n l.j (to_z w64 l.even) (to_z w64 l.high) l.initial.cells l.cells
+invariant-loop-j l = Running (steps_of l.kind) l.base l.stride l.n l.j l.even l.high l.initial.cells l.cells
 
 abbrev pub decreases-loop-j : goal.decreases-loop-j
 decreases-loop-j l = l.n - l.j

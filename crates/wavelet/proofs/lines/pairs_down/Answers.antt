@@ -25,12 +25,12 @@ pair_one-requires c =
     let i = c.loop-j.invariant.0 in
     let S = steps_of c.args.kind in
     let n = pair_inside S c.requires i c.loop-j-test.true in
-    ((c.requires.t_up, n.0, n.1, n.2), pair_ready S c.requires i c.loop-j-test.true)
+    record { t_nonzero = (c.requires.t_up, n.0, n.1, n.2); small_pair = pair_ready S c.requires i c.loop-j-test.true }
 
 pub loop-j-preserved : goal.loop-j-preserved
 loop-j-preserved c =
     let h = c.loop-j-test.true in
-    (pair_step (steps_of c.args.kind) c.requires c.loop-j.invariant.0 h c.Pair-one.ensures, omega (arith, h))
+    (pair_step (steps_of c.args.kind) c.requires c.loop-j.invariant.0 h c.pair_one.ensures, omega (arith, h))
 
 pub shape_of-cells : goal.shape_of-cells
 shape_of-cells c = c.loop-j.invariant.0.same

@@ -6,7 +6,7 @@ use Rattle.wavelet.proofs.lines.pairs_of_line.Goals as goal
 pub pairs_along-requires : goal.pairs_along-requires
 pairs_along-requires c =
     let e = c.if-stride-eq1.true in
-    simp (to_z-of_z, c.ranges.first) (rw e at c.requires.0, rw e at c.requires.1)
+    simp (to_z-of_z, c.ranges.first) record { line = rw e at c.requires.line; first_value = rw e at c.requires.first_value }
 
 pub returns-then-stride-eq1 : goal.returns-then-stride-eq1
 returns-then-stride-eq1 c = rw c.if-stride-eq1.true c.pairs_along.ensures

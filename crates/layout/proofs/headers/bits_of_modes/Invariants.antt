@@ -1,0 +1,16 @@
+-- `layout::headers::bits_of_modes` meets its contract: the loop fills the array, and carries the bit of the next band. Assumes nothing.
+use Prim.Native.Nat.{◌+◌, ◌*◌, ◌-◌, ◌≤◌, min}
+use mathlib.Core.Path.{◌≡◌, refl, ap, ◌∙◌}
+use native.Mathlib.Omega.{arith}
+use borrow.Author.Rules.{rules}
+use Rattle.whole.proofs.Lists.{Filled, filled_none, filled_more, filled_all}
+use Rattle.layout.specs.Bands.{NL}
+use Rattle.layout.specs.Headers.{modes, mode_bit}
+use Rattle.layout.proofs.Sums.{width_most, mode_bit_next}
+use Rattle.layout.proofs.headers.bits_of_modes.Given as goal
+
+abbrev pub invariant-loop-b : goal.invariant-loop-b
+invariant-loop-b l = (l.b ≤ 40) × (l.bit ≡ mode_bit l.s (min l.b (NL l.s))) × (l.bit ≤ 40 + 2 * l.b) × Filled 40 l.b (λ b. mode_bit l.s (min b (NL l.s))) l.bits
+
+abbrev pub decreases-loop-b : goal.decreases-loop-b
+decreases-loop-b l = 40 - l.b

@@ -1,0 +1,11 @@
+-- `layout::numbers::product` meets its contract. Assumes nothing.
+use mathlib.Core.Path.{refl}
+use native.Mathlib.Omega.{arith}
+use Rattle.layout.proofs.Sizes.{product_small}
+use Rattle.layout.proofs.numbers.product.Goals as goal
+
+pub overflow_mul-result : goal.overflow_mul-result
+overflow_mul-result c = record { fits = omega (arith, product_small c.args.a c.args.b c.requires.0 c.requires.1) }
+
+pub returns : goal.returns
+returns c = (refl, product_small c.args.a c.args.b c.requires.0 c.requires.1)
