@@ -1,0 +1,18 @@
+-- `counts::line_counts` meets its contract. Invariant: the groups that are left leave what the whole line leaves. Assumes nothing.
+use Prim.Native.Nat.{◌≤◌, ◌<◌, ◌-◌, ◌*◌}
+use mathlib.Core.Path.{◌≡◌}
+use native.Mathlib.Omega.{arith}
+use borrow.Author.Rules.{rules}
+use lib.ListN.{length, length-set}
+use Rattle.loops.proofs.Laws.{Going, begins, goes_on, stops, ends}
+use Rattle.counts.specs.Lines.{count_cell, turn, end, line_counts}
+use Rattle.counts.proofs.Lines.{turn_is, turn_counts, count_sound, cell_inside, ready_still}
+use Rattle.counts.proofs.line_counts.Given as goal
+
+abbrev pub invariant-loop-g : goal.invariant-loop-g
+invariant-loop-g l =
+    (l.g ≤ l.groups) × (length l.cells ≡ length l.initial.cells) × (l.need ≤ 32 * l.g)
+    × Going (turn l.stretch l.sig l.coding l.place l.sig_at) end l.groups (l.at, 0, l.initial.cells) l.g (l.i, l.need, l.cells)
+
+abbrev pub decreases-loop-g : goal.decreases-loop-g
+decreases-loop-g l = l.groups - l.g

@@ -1,0 +1,16 @@
+-- `segments::components::widest`: the loop holds the greatest sx of the components passed. Assumes nothing.
+use Prim.Native.Nat.{◌≤◌, ◌<◌, ◌-◌, max}
+use mathlib.Core.Path.{◌≡◌, refl, ◌∙◌}
+use native.Mathlib.Numerals.{add-one}
+use native.Mathlib.Omega.{arith}
+use Rattle.segments.specs.Components.{widest}
+use borrow.Author.Rules.{rules}
+use Rattle.segments.proofs.components.widest.Given as goal
+
+abbrev pub invariant-loop-c : goal.invariant-loop-c
+invariant-loop-c l =
+    (l.c ≤ l.n) × (l.m ≡ widest l.s l.p l.c) × (l.m < 16)
+
+abbrev pub decreases-loop-c : goal.decreases-loop-c
+decreases-loop-c l =
+    l.n - l.c

@@ -1,0 +1,19 @@
+-- `segments::tables::full_tail`: the loop holds the tail of the components passed. Assumes nothing.
+use Prim.Native.Nat.{◌≤◌, ◌-◌, ◌+◌}
+use mathlib.Core.Bool.{cond, ◌&&◌}
+use mathlib.Core.Path.{◌≡◌, refl, ◌∙◌}
+use native.Mathlib.Numerals.{add-one}
+use native.Mathlib.Omega.{arith}
+use lib.Dec.{eqb}
+use Rattle.segments.specs.Segments.{full_tail}
+use Rattle.segments.proofs.NumberLaws.{cond_le}
+use borrow.Author.Rules.{rules}
+use Rattle.segments.proofs.tables.full_tail.Given as goal
+
+abbrev pub invariant-loop-c : goal.invariant-loop-c
+invariant-loop-c l =
+    (l.c ≤ l.n) × (l.tail ≡ full_tail l.s l.cdt l.c) × (l.tail ≤ l.c)
+
+abbrev pub decreases-loop-c : goal.decreases-loop-c
+decreases-loop-c l =
+    l.n - l.c

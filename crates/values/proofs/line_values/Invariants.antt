@@ -1,0 +1,14 @@
+-- `values::line_values` meets its contract. Invariant: the groups before g are in their cells. Assumes nothing.
+use Prim.Native.Nat.{◌-◌, ◌*◌, ◌≤◌, ◌<◌}
+use native.Mathlib.Omega.{arith}
+use borrow.Author.Rules.{rules}
+use Rattle.bits.specs.Groups.{Ncg}
+use Rattle.values.proofs.Lines.{Reached, reached_first, reached_next, reached_last, fits_group}
+use Rattle.values.proofs.line_values.Given as goal
+
+abbrev pub invariant-loop-g : goal.invariant-loop-g
+invariant-loop-g l =
+    (l.g ≤ Ncg l.line.width) × Reached l.dat l.sgn l.how l.line (record { l.at = l.initial.at; l.sign = l.initial.sign }) l.g l.initial.cells (record { l.at = l.at; l.sign = l.sign }) l.cells
+
+abbrev pub decreases-loop-g : goal.decreases-loop-g
+decreases-loop-g l = Ncg l.line.width - l.g

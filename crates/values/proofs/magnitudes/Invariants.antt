@@ -1,0 +1,14 @@
+-- `values::magnitudes` meets its contract. Invariant: each size has the j planes passed. Assumes nothing.
+use mathlib.Core.Path.{◌≡◌, refl}
+use Prim.Native.Nat.{◌-◌, ◌≤◌}
+use native.Mathlib.Omega.{arith}
+use Rattle.values.specs.Group.{planes}
+use Rattle.values.proofs.Planes.{Sized, sized, more_sized, below_four}
+use Rattle.values.proofs.magnitudes.Given as goal
+
+abbrev pub invariant-loop-j : goal.invariant-loop-j
+invariant-loop-j l =
+    (l.j ≤ l.n) × Sized l.dat l.from l.j 0 l.v0 × Sized l.dat l.from l.j 1 l.v1 × Sized l.dat l.from l.j 2 l.v2 × Sized l.dat l.from l.j 3 l.v3
+
+abbrev pub decreases-loop-j : goal.decreases-loop-j
+decreases-loop-j l = l.n - l.j
