@@ -16,39 +16,31 @@ use Rattle.values.proofs.coded_group.Goals as goal
 
 module _ (c : In-loop-k) where
   below_four : c.loop-k.k < 4
-  below_four = omega (arith, c.loop-k-test.true, (start c).requires.count)
+  below_four = omega (arith, c.loop-k-test.true, c.requires.count)
 
   -- its cell
-  inside : (start c).args.group.first + c.loop-k.k * (start c).args.group.stride < length c.loop-k.cells
-  inside = omega (arith, (start c).requires.inside.each c.loop-k.k c.loop-k-test.true, c.loop-k.invariant.3.long)
+  inside : c.args.group.first + c.loop-k.k * c.args.group.stride < length c.loop-k.cells
+  inside = omega (arith, c.requires.inside.each c.loop-k.k c.loop-k-test.true, c.loop-k.invariant.3.long)
 
-sign : (c : After-chosen-in-loop-k) → let a = (start c).args in
+sign : (c : After-chosen-in-loop-k) → let a = c.args in
     SignAt a.dat.now a.sgn.now a.how a.group a.next c.sign_field-signs.result c.loop-k.k c.chosen-in-loop-k.result
 sign c =
-    sign_at c.loop-k.invariant.1 _ (below_four c.before) c.loop-k.invariant.2 c.chosen-in-loop-k.ensures.value
+    sign_at c.loop-k.invariant.1 _ (omega (arith, c.loop-k-test.true, c.requires.count)) c.loop-k.invariant.2 c.chosen-in-loop-k.ensures.value
 
-index_read : (c : After-signed_index-index) → let a = (start c).args in
+index_read : (c : After-signed_index-index) → let a = c.args in
     c.signed_index-index.result ≡ index a.dat.now a.how.fs a.group.m a.group.t a.next.at a.sgn.now a.next.sign c.loop-k.k
 index_read c =
-    index_is c.loop-k.invariant.1 _ (below_four c.before.before) (sign c.before) c.signed_index-index.ensures
+    let low : c.loop-k.k < 4 = omega (arith, c.loop-k-test.true, c.requires.count) in
+    index_is c.loop-k.invariant.1 _ low (sign_at c.loop-k.invariant.1 _ low c.loop-k.invariant.2 c.chosen-in-loop-k.ensures.value) c.signed_index-index.ensures
 
 -- ---- the answer
 
 
-pub chosen-requires : goal.chosen-requires
-chosen-requires c = tt
-
 pub overflow_add-next : goal.overflow_add-next
 overflow_add-next c = omega arith
 
-pub less-requires : goal.less-requires
-less-requires c = tt
-
 pub magnitudes-v-requires : goal.magnitudes-v-requires
 magnitudes-v-requires c = omega arith
-
-pub sign_field-signs-requires : goal.sign_field-signs-requires
-sign_field-signs-requires c = tt
 
 pub loop-k-init : goal.loop-k-init
 unfolding v sign_bits
@@ -65,13 +57,10 @@ loop-k-init c =
     )
 
 pub offset_bounds-v-k : goal.offset_bounds-v-k
-offset_bounds-v-k c = omega (arith, below_four (goal.at.offset_bounds-v-k c).In-loop-k)
+offset_bounds-v-k c = omega (arith, c.loop-k-test.true, c.requires.count)
 
 pub bounds-v-k : goal.bounds-v-k
-bounds-v-k c = below_four (goal.at.bounds-v-k c).In-loop-k
-
-pub chosen-requires-in-loop-k : goal.chosen-requires-in-loop-k
-chosen-requires-in-loop-k c = tt
+bounds-v-k c = omega (arith, c.loop-k-test.true, c.requires.count)
 
 pub overflow_sub-chosen : goal.overflow_sub-chosen
 overflow_sub-chosen c = (sign (goal.at.overflow_sub-chosen c).After-chosen-in-loop-k).inside
@@ -90,16 +79,13 @@ overflow_add-to c = omega (arith, inside (goal.at.overflow_add-to c).In-loop-k)
 
 pub scaled_coefficient-requires : goal.scaled_coefficient-requires
 scaled_coefficient-requires c =
-    (rw (back64 _ c.signed_index-index.type_inv) (carried c.loop-k.invariant.1 _ (index_read (goal.at.scaled_coefficient-requires c).After-signed_index-index)), (start c).requires.fq)
+    (rw (back64 _ c.signed_index-index.type_inv) (carried c.loop-k.invariant.1 _ (index_read (goal.at.scaled_coefficient-requires c).After-signed_index-index)), c.requires.fq)
 
 pub offset_bounds-cells-to : goal.offset_bounds-cells-to
 offset_bounds-cells-to c = omega (arith, inside (goal.at.offset_bounds-cells-to c).In-loop-k)
 
 pub bounds-cells-to : goal.bounds-cells-to
 bounds-cells-to c = inside (goal.at.bounds-cells-to c).In-loop-k
-
-pub sign_bit-used-requires : goal.sign_bit-used-requires
-sign_bit-used-requires c = tt
 
 pub overflow_add-used : goal.overflow_add-used
 overflow_add-used c =
@@ -121,17 +107,11 @@ loop-k-preserved c =
       rw (back64 _ c.scaled_coefficient.type_inv) (places i.3 z),
     )
 
-pub sign_bits-all-requires : goal.sign_bits-all-requires
-sign_bits-all-requires c = tt
-
 pub nibbles_of-requires : goal.nibbles_of-requires
 nibbles_of-requires c = omega arith
 
 pub overflow_add-at : goal.overflow_add-at
 overflow_add-at c = omega arith
-
-pub chosen-requires-2 : goal.chosen-requires-2
-chosen-requires-2 c = tt
 
 pub overflow_add-sign : goal.overflow_add-sign
 overflow_add-sign c = omega arith

@@ -7,7 +7,7 @@ use Rattle.values.proofs.Lines.{Reached, reached_first, reached_next, reached_la
 use Rattle.values.proofs.line_values.Goals.{In-loop-g}
 use Rattle.values.proofs.line_values.Goals as goal
 
-some : (c : In-loop-g) → 4 * c.loop-g.g < (start c).args.line.width
+some : (c : In-loop-g) → 4 * c.loop-g.g < c.args.line.width
 some c = omega (arith, c.loop-g-test.true)
 
 pub loop-g-init : goal.loop-g-init
@@ -17,12 +17,12 @@ pub group_of-group-requires : goal.group_of-group-requires
 group_of-group-requires c =
     record {
       some = some (goal.at.group_of-group-requires c).In-loop-g;
-      inside = omega (arith, (start c).requires.1.inside (4 * c.loop-g.g) (some (goal.at.group_of-group-requires c).In-loop-g), c.loop-g.invariant.1.written.long);
+      inside = omega (arith, c.requires.1.inside (4 * c.loop-g.g) (some (goal.at.group_of-group-requires c).In-loop-g), c.loop-g.invariant.1.written.long);
     }
 
 pub any_group-next-requires : goal.any_group-next-requires
 any_group-next-requires c =
-    ((start c).requires.0, rw c.group_of-group.ensures (fits_group _ _ _ _ _ _ _ (some (goal.at.any_group-next-requires c).In-loop-g) (start c).requires.1 c.loop-g.invariant.1))
+    (c.requires.0, rw c.group_of-group.ensures (fits_group _ _ _ _ _ _ _ (some (goal.at.any_group-next-requires c).In-loop-g) c.requires.1 c.loop-g.invariant.1))
 
 pub loop-g-smaller : goal.loop-g-smaller
 loop-g-smaller c = omega arith
@@ -31,7 +31,7 @@ pub loop-g-preserved : goal.loop-g-preserved
 loop-g-preserved c =
     (
       omega (arith, c.loop-g-test.true),
-      reached_next _ _ _ _ _ _ _ (some (goal.at.loop-g-preserved c).In-loop-g) (start c).requires.1 c.loop-g.invariant.1 (rw c.group_of-group.ensures at c.any_group-next.ensures),
+      reached_next _ _ _ _ _ _ _ (some (goal.at.loop-g-preserved c).In-loop-g) c.requires.1 c.loop-g.invariant.1 (rw c.group_of-group.ensures at c.any_group-next.ensures),
     )
 
 pub shape_of-cells : goal.shape_of-cells

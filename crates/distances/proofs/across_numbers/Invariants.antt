@@ -1,0 +1,22 @@
+-- `distances::across_numbers` is the first loop of Table E.1: the invariant is `Descending`, the measure the depth. Assumes nothing.
+use mathlib.Core.Path.{sym, ap, ◌∙◌}
+use Prim.Native.Nat.{◌-◌, ◌^◌}
+use native.Mathlib.Omega.{arith}
+use borrow.Author.Rules.{rules}
+use lib.ListN.{get_or}
+use Rattle.quantiser.specs.Distance.{band_number}
+use Rattle.wavelet.specs.Transform.{LL}
+use Rattle.wavelet.specs.Distance.{joined}
+use Rattle.layout.specs.Bands.{band}
+use Rattle.distances.specs.Rule.{number_of}
+use Rattle.distances.specs.Steps.{across_turn}
+use Rattle.distances.proofs.Types.{type_low, type_below}
+use Rattle.distances.proofs.Descent.{Descending, descent_begins, descent_goes_on, descent_ends}
+use Rattle.distances.proofs.across_numbers.Given as goal
+
+abbrev pub invariant-loop-d : goal.invariant-loop-d
+invariant-loop-d l =
+    Descending (across_turn l.s l.fq l.tops l.i l.ny) l.ny (l.s.nlx - l.ny) (number_of l.s l.fq l.tops l.i LL l.s.nlx l.ny) (2 ^ 46) l.d l.low
+
+abbrev pub decreases-loop-d : goal.decreases-loop-d
+decreases-loop-d l = l.d
