@@ -18,7 +18,7 @@ level c =
     (rw c.type_across-beta.ensures (types_below c.args.s b c.args.d c.requires.2 c.requires.3), omega (arith, b.levels, b.down_levels))
 
 pub number_of-hl-requires : goal.number_of-hl-requires
-number_of-hl-requires c = (c.requires.0, c.requires.1, omega (arith, level (goal.at.number_of-hl-requires c).After-type_across-beta))
+number_of-hl-requires c = (c.requires.0, c.requires.1, omega (arith, level c))
 
 pub overflow_add-beta : goal.overflow_add-beta
 overflow_add-beta c = omega (arith, level (goal.at.overflow_add-beta c).After-type_across-beta)

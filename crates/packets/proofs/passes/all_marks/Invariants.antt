@@ -1,0 +1,15 @@
+-- `packets::passes::all_marks` meets its contract. Assumes nothing.
+use mathlib.Core.Path.{◌≡◌, refl}
+use Prim.Native.Nat.{◌≤◌, ◌-◌, ◌*◌, ◌^◌}
+use native.Mathlib.Omega.{arith}
+use borrow.Author.Rules.{rules}
+use Rattle.layout.specs.Slots.{candidates}
+use Rattle.packets.specs.Passes.{marks}
+use Rattle.packets.proofs.LinePasses.{marks_none, marks_more}
+use Rattle.packets.proofs.passes.all_marks.Given as goal
+
+abbrev pub invariant-loop-j : goal.invariant-loop-j
+invariant-loop-j l = (l.j ≤ l.n) × (l.sum ≡ marks l.s l.c l.p l.slot l.raw l.j) × (l.sum ≤ 2 ^ 32 * l.j)
+
+abbrev pub decreases-loop-j : goal.decreases-loop-j
+decreases-loop-j l = l.n - l.j

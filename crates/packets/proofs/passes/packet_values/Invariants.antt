@@ -1,0 +1,25 @@
+-- `packets::passes::packet_values` meets its contract. Assumes nothing.
+use mathlib.Core.Bool.{true}
+use mathlib.Core.Path.{◌≡◌, refl, ◌∙◌}
+use mathlib.Core.List.{List}
+use Prim.Native.Nat.{◌≤◌, ◌<◌, ◌-◌, ◌*◌, ◌^◌}
+use native.Mathlib.Omega.{arith}
+use borrow.Author.Rules.{rules}
+use lib.IntN.{ℤ}
+use lib.ListN.{length}
+use Rattle.loops.proofs.Laws.{Going, begins, goes_on, ends}
+use Rattle.layout.specs.Slots.{candidates}
+use Rattle.values.specs.declared.Next.{Next}
+use Rattle.packets.specs.Steps.{Lies}
+use Rattle.packets.specs.Passes.{value_turn, packet_values}
+use Rattle.packets.proofs.Lines.{lies_read}
+use Rattle.packets.proofs.LinePasses.{value_turn_lem, value_few}
+use Rattle.packets.proofs.passes.packet_values.Given as goal
+
+abbrev pub invariant-loop-j : goal.invariant-loop-j
+invariant-loop-j l =
+    (l.j ≤ l.n) × (length l.cells ≡ length l.initial.cells) × (l.next.at ≤ 2 ^ 36 * l.j) × (l.next.sign ≤ 2 ^ 36 * l.j)
+    × Going (value_turn l.c l.p l.slot l.dat l.sgn) (λ (x : Next × List ℤ). x) (candidates l.c.shape l.slot) (record { at = 0; sign = 0 }, l.initial.cells) l.j (l.next, l.cells)
+
+abbrev pub decreases-loop-j : goal.decreases-loop-j
+decreases-loop-j l = l.n - l.j
