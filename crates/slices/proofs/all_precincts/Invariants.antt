@@ -1,0 +1,25 @@
+use Prim.Native.Nat.{◌≤◌, ◌<◌, ◌-◌}
+use mathlib.Core.Path.{◌≡◌, refl, sym, ◌∙◌}
+use native.Mathlib.Omega.{arith}
+use lib.ListN.{length}
+use Rattle.rows.specs.declared.Verdict.TheVariants.{Fine}
+use Rattle.loops.proofs.Laws.{Going, begins, goes_on, stops, ends}
+use Rattle.pieces.proofs.Laws.{bytes_end, adds_up, adds_on, adds_end}
+use Rattle.layout.specs.Precincts.{Np}
+use Rattle.slices.specs.Slice.{precinct_turn, precincts}
+use Rattle.slices.specs.Pieces.{precincts_pieces}
+use Rattle.layout.proofs.Columns.{slices_most}
+use Rattle.slices.proofs.PrecinctLaws.{settled}
+use Rattle.slices.proofs.SliceLaws.{turned_goes, turned_stops, stops_here}
+use Rattle.slices.proofs.Pieces.{precinct_turn_tiles, PrecinctsAdding, precincts_begin}
+use borrow.Author.Rules.{rules}
+use Rattle.slices.proofs.all_precincts.Given as goal
+
+abbrev pub invariant-loop-n : goal.invariant-loop-n
+invariant-loop-n l =
+    Going (precinct_turn l.s l.c l.t) (λ y. (Fine, y)) (Np l.c.shape l.t) (l.initial.place, l.initial.most, l.initial.cells) l.n (l.place, l.most, l.cells)
+    × (l.place ≤ length l.s) × (length l.cells ≡ length l.initial.cells)
+    × PrecinctsAdding l.s l.c l.t (l.initial.place, l.initial.most, l.initial.cells) l.n (l.place, l.most, l.cells) l.bytes
+
+abbrev pub decreases-loop-n : goal.decreases-loop-n
+decreases-loop-n l = l.count - l.n

@@ -1,0 +1,26 @@
+use Prim.Native.Nat.{◌≤◌, ◌<◌, ◌-◌}
+use mathlib.Core.Path.{◌≡◌, refl, sym, ap, ◌∙◌}
+use native.Mathlib.Omega.{arith}
+use lib.ListN.{length}
+use Rattle.loops.proofs.Laws.{Going, begins, goes_on, stops, ends}
+use Rattle.rows.specs.Rows.{first}
+use Rattle.pieces.specs.Pieces.{bytes_of, bytes_by}
+use Rattle.pieces.proofs.Laws.{bytes_end, refused_bytes, adds_up, adds_on, adds_end}
+use Rattle.layout.specs.Slots.{slots}
+use Rattle.slices.specs.Precinct.{body, no_flags, packet_turn, rest_checks, packets}
+use Rattle.slices.specs.Pieces.{precinct_pieces}
+use Rattle.packets.proofs.LinePasses.{standing_still}
+use Rattle.slices.proofs.PrecinctLaws.{ends_at, rest_is, passed_goes, passed_stops, settled}
+use Rattle.slices.proofs.Pieces.{slot_tiles, SlotsAdding, slots_begin}
+use borrow.Author.Rules.{rules}
+use Rattle.slices.proofs.precincts.packets.Given as goal
+
+abbrev pub invariant-loop-slot : goal.invariant-loop-slot
+invariant-loop-slot l =
+    Going (packet_turn l.s l.c l.p.row l.p.column l.p.at) (λ x. (first (rest_checks l.s l.c l.p.row l.p.column l.p.at x.0), x.2)) (slots l.c.shape)
+    (body l.s l.c l.p.row l.p.column l.p.at, no_flags l.s l.c l.p.row l.p.column l.p.at, l.initial.cells) l.slot (l.at, l.raws, l.cells)
+    × (l.at ≤ l.p.end) × (length l.cells ≡ length l.initial.cells)
+    × SlotsAdding l.s l.c l.p.row l.p.column l.p.at l.initial.cells l.slot (l.at, l.raws, l.cells) l.bytes
+
+abbrev pub decreases-loop-slot : goal.decreases-loop-slot
+decreases-loop-slot l = l.n - l.slot
