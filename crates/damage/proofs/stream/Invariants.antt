@@ -1,0 +1,27 @@
+-- `stream` meets its contract. Assumes nothing.
+use Prim.Native.Nat.{◌≤◌, ◌<◌, ◌-◌}
+use mathlib.Core.Path.{◌≡◌, refl, sym, ap, ◌∙◌}
+use native.Mathlib.Omega.{arith}
+use lib.ListN.{length}
+use Rattle.loops.proofs.Laws.{Going, begins, goes_on, stops, ends}
+use Rattle.pieces.specs.Pieces.{bytes_by}
+use Rattle.pieces.proofs.Laws.{adds_up, adds_on, adds_end}
+use Rattle.layout.specs.Precincts.{slices}
+use Rattle.slices.specs.Slice.{State}
+use Rattle.slices.specs.Stream.{ended}
+use Rattle.damage.specs.Stream.{turn_by, stream_by}
+use Rattle.damage.specs.Pieces.{stream_pieces_by}
+use Rattle.slices.proofs.PrecinctLaws.{settled}
+use Rattle.slices.proofs.SliceLaws.{turned_goes, turned_stops, stops_here}
+use Rattle.damage.proofs.Pieces.{turn_tiles, SlicesAdding, slices_begin}
+use borrow.Author.Rules.{rules}
+use Rattle.damage.proofs.stream.Given as goal
+
+abbrev pub invariant-loop-t : goal.invariant-loop-t
+invariant-loop-t l =
+    Going (turn_by l.s l.c l.damaged) (ended l.s) (slices l.c.shape) (l.initial.place, l.initial.most, l.initial.cells) l.t (l.place, l.most, l.cells)
+    × (l.place ≤ length l.s) × (length l.cells ≡ length l.initial.cells)
+    × SlicesAdding l.s l.c l.damaged (l.initial.place, l.initial.most, l.initial.cells) l.t (l.place, l.most, l.cells) l.bytes
+
+abbrev pub decreases-loop-t : goal.decreases-loop-t
+decreases-loop-t l = l.count - l.t
