@@ -3,13 +3,12 @@ use mathlib.Core.Bool.{false}
 use lib.ListN.{replicate}
 use borrow.Author.Rules.{rules}
 use Rattle.pieces.specs.Pieces.{nothing}
-use Rattle.reader.proofs.records.refused.Statement.{statement}
-use Rattle.reader.proofs.records.refused.Tie as tie
+use Rattle.reader.proofs.records.refused.Goals as goal
 
-returns : tie.Need-returns
+pub returns : goal.returns
 returns c =
     λ i. record {
-      answer = c.before.answer.ensures i;
+      answer = c.answer.ensures i;
       place = c.place.ensures i;
       components = 0;
       caption = false;
@@ -19,6 +18,3 @@ returns c =
       distance = replicate 4 0;
       bytes = nothing;
     }
-
-pub refused-spec : {M : Type 1} → statement M
-refused-spec = tie.close (tie.spec (λ c κs. search rules) (λ c κs. search rules) returns)

@@ -2,17 +2,16 @@
 use mathlib.Core.List.{[], ◌∷◌}
 use borrow.Author.Rules.{rules}
 use Rattle.whole.specs.Cells.{listed}
-use Rattle.reader.proofs.records.shown.Statement.{statement}
-use Rattle.reader.proofs.records.shown.Tie as tie
+use Rattle.reader.proofs.records.shown.Goals as goal
 
-returns : tie.Need-returns
+pub returns : goal.returns
 unfolding listed
 returns c =
-    let a = c.before.before.before.before.before.args in
-    let s3 = c.size-of4.ensures in
-    let s2 = c.before.size-of3.ensures in
-    let s1 = c.before.before.size-of2.ensures in
-    let s0 = c.before.before.before.type_size.ensures in
+    let a = c.args in
+    let s3 = c.size_of-s3.ensures in
+    let s2 = c.size_of-s2.ensures in
+    let s1 = c.size_of-s1.ensures in
+    let s0 = c.size_of-s0.ensures in
     λ i. record {
       answer = 0;
       place = a.h.picture.lcod;
@@ -24,6 +23,3 @@ returns c =
       distance = a.distance;
       bytes = a.bytes;
     }
-
-pub shown-spec : {M : Type 1} → statement M
-shown-spec = tie.close (tie.spec (λ c κs. search rules) (λ c κs. search rules) (λ c κs. search rules) (λ c κs. search rules) returns)

@@ -1,0 +1,34 @@
+-- `reader::judging::judge_by` meets its contract. Assumes nothing.
+use mathlib.Core.Path.{refl, sym, ◌∙◌, subst}
+use native.Mathlib.Nat.{le_refl}
+use Rattle.layout.specs.Cells.{samples}
+use Rattle.reader.specs.Steps.{Opened}
+use Rattle.reader.proofs.Openings.{opened}
+use Rattle.reader.proofs.Leaving.{roomy}
+use Rattle.reader.proofs.Judgement.{judges, judges_none}
+use borrow.Author.Rules.{rules}
+use Rattle.reader.proofs.judging.judge_by.Goals as goal
+
+pub samples_before-n-requires : goal.samples_before-n-requires
+samples_before-n-requires c =
+    rw (c.shape_of-s.ensures, c.requires.1) ((opened c.args.stream.now (sym c.requires.0 ∙ c.in-Fine.is)).shape, le_refl _)
+
+pub room_row-w-requires : goal.room_row-w-requires
+room_row-w-requires c = (c.samples_before-n.ensures.0 ∙ (λ i. samples (c.shape_of-s.ensures i) (c.shape_of-s.ensures i).nc), c.samples_before-n.ensures.1)
+
+pub judge_lent-requires : goal.judge_lent-requires
+judge_lent-requires c =
+    let own = c.samples_before-n.ensures.0 ∙ (λ i. samples (c.shape_of-s.ensures i) (c.shape_of-s.ensures i).nc) in (
+      subst (Opened c.args.stream.now) (sym c.requires.1) (opened c.args.stream.now (sym c.requires.0 ∙ c.in-Fine.is)),
+      own,
+      c.samples_before-n.ensures.1,
+      λ fine. (roomy c.args.damaged c.args.placed c.args.h own c.room_row-w.ensures fine).1,
+    )
+
+pub returns-in-Fine : goal.returns-in-Fine
+returns-in-Fine c =
+    judges (sym c.requires.0 ∙ c.in-Fine.is) c.requires.1 c.room_row-w.ensures c.judge_lent.ensures
+
+pub returns-in-Refused : goal.returns-in-Refused
+returns-in-Refused c =
+    judges_none (sym c.requires.0 ∙ c.in-Refused.is) c.requires.0 c.requires.1 refl

@@ -1,0 +1,7 @@
+-- `reader::read_places` meets its contract. Assumes nothing.
+use Rattle.reader.proofs.Leaving.{reads_places}
+use borrow.Author.Rules.{rules}
+use Rattle.reader.proofs.read_places.Goals as goal
+
+pub returns : goal.returns
+returns c = reads_places c.read_in.ensures
