@@ -1,0 +1,21 @@
+-- `reasons::search::largest_of` meets its contract. Invariant: the largest of the bands before. Assumes nothing.
+use Prim.Native.Nat.{ℕ, ◌%◌, ◌-◌, ◌≤◌}
+use mathlib.Core.Path.{◌≡◌, refl, ap, ◌∙◌}
+use mathlib.Core.Bool.{cond}
+use mathlib.Core.List.{List}
+use native.Mathlib.Omega.{arith}
+use lib.Dec.{eqb}
+use lib.ListN.{get_or}
+use Rattle.layout.specs.Precincts.{largest}
+use Rattle.layout.proofs.Columns.{largest_next}
+use borrow.Author.Rules.{rules}
+use Rattle.reasons.proofs.search.largest_of.Given as goal
+
+abbrev pub own : ℕ → ℕ → List ℕ → ℕ → ℕ
+own nc i tops b = cond (eqb (b % nc) i) (get_or tops b 0) 0
+
+abbrev pub invariant-loop-b : goal.invariant-loop-b
+invariant-loop-b l = (l.b ≤ l.n) × (l.top ≡ largest (own l.nc l.i l.tops) l.b)
+
+abbrev pub decreases-loop-b : goal.decreases-loop-b
+decreases-loop-b l = l.n - l.b

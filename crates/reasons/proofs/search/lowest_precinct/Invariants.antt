@@ -1,0 +1,28 @@
+-- `reasons::search::lowest_precinct` meets its contract. Invariant: no precinct before has passed, and the walk stands before the next. Assumes nothing.
+use Prim.Native.Nat.{ℕ, ◌-◌, ◌≤◌, ◌<◌}
+use mathlib.Core.Path.{◌≡◌, sym, ap, ◌∙◌}
+use mathlib.Core.Bool.{Bool, ◌&&◌}
+use mathlib.Core.List.{List}
+use native.Mathlib.Omega.{arith}
+use lib.Dec.{eqb}
+use Rattle.packets.specs.declared.Setting.{Setting}
+use Rattle.packets.specs.declared.Precinct.{Precinct}
+use Rattle.packets.specs.Precincts.{T}
+use Rattle.slices.specs.Precinct.{holds}
+use Rattle.reasons.specs.Coarsest.{per_slice, all, precinct_of, held_by, truncation_of}
+use Rattle.loops.proofs.Lowest.{Passed, search_begins, search_next, search_stops, search_ends}
+use Rattle.reasons.proofs.Numbers.{per_slice_some, slice_below, number_below}
+use Rattle.reasons.proofs.LowestBand.{row_below}
+use Rattle.reasons.proofs.Steps.{stands_at, stands_first, stands_inside, head_inside, precinct_ends, head_found, precinct_seen}
+use borrow.Author.Rules.{rules}
+use Rattle.reasons.proofs.search.lowest_precinct.Given as goal
+
+-- the test of precinct p
+abbrev pub test : List ℕ → Setting → ℕ → ℕ → ℕ → ℕ → Bool
+test s c at b top p = held_by s c at p b && eqb (truncation_of s c at p b) top
+
+abbrev pub invariant-loop-p : goal.invariant-loop-p
+invariant-loop-p l = (l.p ≤ l.count) × (l.place ≡ stands_at l.s l.c l.at l.p) × Passed (test l.s l.c l.at l.b l.top) l.p
+
+abbrev pub decreases-loop-p : goal.decreases-loop-p
+decreases-loop-p l = l.count - l.p

@@ -1,0 +1,19 @@
+-- `reasons::why_by` meets its contract. Assumes nothing.
+use mathlib.Core.Path.{sym, ◌∙◌}
+use Rattle.reasons.specs.Why.{why_by}
+use Rattle.reasons.proofs.Telling.{refused_is}
+use borrow.Author.Rules.{rules}
+use Rattle.reasons.proofs.why_by.Goals as goal
+
+pub read_why-requires : goal.read_why-requires
+read_why-requires c = c.requires c.in-Fine.is
+
+pub returns-in-Fine : goal.returns-in-Fine
+returns-in-Fine c =
+    let a = c.args in
+    c.read_why.ensures ∙ (λ i. why_by (sym c.in-Fine.is i) a.stream.now a.h)
+
+pub returns-in-Refused : goal.returns-in-Refused
+returns-in-Refused c =
+    let a = c.args in
+    c.refused_why.ensures ∙ refused_is a.stream.now a.h c.in-Refused.is
