@@ -327,7 +327,7 @@ fn put_bytes(out: &mut [u8], at: usize, b: Bytes) -> usize
 // The text of a page and its samples, as far as there is room. Answers how many bytes that is.
 pub fn page_text(p: Page, samples: &[u16], out: &mut [u8]) -> usize
     ensures prefix_len { IsPrefixLen result out.new }
-    ensures page_text { PageText p samples.now out.old result out.new }
+    ensures leads { PageText p samples.now out.old result out.new }
 {
     put_page(out, p, samples)
 }
@@ -335,7 +335,7 @@ pub fn page_text(p: Page, samples: &[u16], out: &mut [u8]) -> usize
 // The same, and then the marks of each component.
 pub fn damaged_text(p: Page, samples: &[u16], marks: &[u8], out: &mut [u8]) -> usize
     ensures prefix_len { IsPrefixLen result out.new }
-    ensures damaged_text { DamagedText p samples.now marks.now out.old result out.new }
+    ensures leads { DamagedText p samples.now marks.now out.old result out.new }
 {
     put_damaged(out, p, samples, marks)
 }
@@ -343,7 +343,7 @@ pub fn damaged_text(p: Page, samples: &[u16], marks: &[u8], out: &mut [u8]) -> u
 // The text of a page and its samples, and then the distances of each component.
 pub fn places_text(p: Page, samples: &[u16], distances: &[u16], out: &mut [u8]) -> usize
     ensures prefix_len { IsPrefixLen result out.new }
-    ensures places_text { PlacesText p samples.now distances.now out.old result out.new }
+    ensures leads { PlacesText p samples.now distances.now out.old result out.new }
 {
     let shown = put_page(out, p, samples);
     put_distances(out, shown, p, distances)
@@ -358,7 +358,7 @@ pub fn damaged_places_text(
     out: &mut [u8],
 ) -> usize
     ensures prefix_len { IsPrefixLen result out.new }
-    ensures damaged_places_text { DamagedPlacesText p samples.now marks.now distances.now out.old result out.new }
+    ensures leads { DamagedPlacesText p samples.now marks.now distances.now out.old result out.new }
 {
     let marked = put_damaged(out, p, samples, marks);
     put_distances(out, marked, p, distances)
@@ -367,7 +367,7 @@ pub fn damaged_places_text(
 // The text of a page and its samples, and then where the bytes of its stream went.
 pub fn counted_text(p: Page, samples: &[u16], out: &mut [u8]) -> usize
     ensures prefix_len { IsPrefixLen result out.new }
-    ensures counted_text { CountedText p samples.now out.old result out.new }
+    ensures leads { CountedText p samples.now out.old result out.new }
 {
     let shown = put_page(out, p, samples);
     put_bytes(out, shown, p.bytes)

@@ -1,0 +1,14 @@
+-- `show::put_number`: its digits. Assumes nothing.
+use mathlib.Core.Path.{◌∙◌}
+use native.Mathlib.Omega.{arith}
+use Rattle.show.proofs.Digits.{few, spelt}
+use borrow.Author.Rules.{rules}
+use Rattle.show.proofs.put_number.Goals as goal
+
+pub returns : goal.returns
+returns c =
+    let d = c.decimal-k.ensures in
+    let n = c.args.n in
+    let k = c.decimal-k.result in
+    let e = d.digits ∙ spelt 20 n k (few n k c.ranges.n.fits d.len) d.len in
+    (rw e at c.put.ensures)

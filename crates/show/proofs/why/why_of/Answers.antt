@@ -1,0 +1,6 @@
+-- `show::why::why_of`: the text of what is told of the stream. Assumes nothing.
+use borrow.Author.Rules.{rules}
+use Rattle.show.proofs.why.why_of.Goals as goal
+
+pub returns : goal.returns
+returns c = rw c.explain-w.ensures.why at c.why_text.ensures
