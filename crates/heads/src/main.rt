@@ -2,162 +2,101 @@
 #![tactic(auto)]
 
 use header::header::Header;
-use libc::STDOUT_FILENO;
+use input::read_full;
 use picture::picture::Picture;
 use rows::Verdict;
+use std::fs::Files;
+use std::{env, fs, io};
 
-fn text(bytes: &[u8]) {
-    io::write_all(STDOUT_FILENO, bytes);
+fn print_sizes(rt: &impl Print, h: Picture) -> io::Result<()> {
+    print!(rt;
+        "  Lcod {} Ppih {} Plev {} Wf {} Hf {}",
+        h.lcod, h.ppih, h.plev, h.wf, h.hf
+    )?;
+    println!(rt;
+        " Cw {} Hsl {} Nc {} Ng {} Ss {}",
+        h.cw, h.hsl, h.nc, h.ng, h.ss
+    )
 }
 
-fn number(n: usize) {
-    io::print_decimal(STDOUT_FILENO, n as u64);
-}
-
-// A byte string that a loop uses would be the invariant's to speak of, so it has a function.
-fn space() {
-    text(b" ");
-}
-
-fn field(name: &[u8], n: usize) {
-    text(name);
-    space();
-    number(n);
-}
-
-fn print_sizes(h: Picture) {
-    field(b"  Lcod", h.lcod);
-    field(b" Ppih", h.ppih);
-    field(b" Plev", h.plev);
-    field(b" Wf", h.wf);
-    field(b" Hf", h.hf);
-    field(b" Cw", h.cw);
-    field(b" Hsl", h.hsl);
-    field(b" Nc", h.nc);
-    field(b" Ng", h.ng);
-    field(b" Ss", h.ss);
-    text(b"\n");
-}
-
-fn print_modes(h: Picture) {
-    field(b"  Bw", h.bw);
-    field(b" Fq", h.fq);
-    field(b" Br", h.br);
-    field(b" Fslc", h.fslc);
-    field(b" Ppoc", h.ppoc);
-    field(b" Cpih", h.cpih);
-    field(b" NLx", h.nlx);
-    field(b" NLy", h.nly);
-    field(b" Lh", h.lh);
-    field(b" Rl", h.rl);
-    field(b" Qpih", h.qpih);
-    field(b" Fs", h.fs);
-    field(b" Rm", h.rm);
-    text(b"\n");
-}
-
-fn print_component(c: usize, depth: usize, sx: usize, sy: usize) {
-    field(b"  component", c);
-    field(b" B", depth);
-    field(b" sx", sx);
-    field(b" sy", sy);
-    text(b"\n");
+fn print_modes(rt: &impl Print, h: Picture) -> io::Result<()> {
+    print!(rt;
+        "  Bw {} Fq {} Br {} Fslc {} Ppoc {} Cpih {}",
+        h.bw, h.fq, h.br, h.fslc, h.ppoc, h.cpih
+    )?;
+    println!(rt;
+        " NLx {} NLy {} Lh {} Rl {} Qpih {} Fs {} Rm {}",
+        h.nlx, h.nly, h.lh, h.rl, h.qpih, h.fs, h.rm
+    )
 }
 
 // All four entries, used or not.
-fn print_components(h: Header) {
-    let mut c = 0;
-    while c < 4 {
-        print_component(c, h.depth[c], h.sx[c], h.sy[c]);
-        c += 1;
+fn print_components(rt: &impl Print, h: Header) -> io::Result<()> {
+    for c in 0..4 {
+        let (depth, sx, sy) = (h.depth[c], h.sx[c], h.sy[c]);
+        println!(rt; "  component {c} B {depth} sx {sx} sy {sy}")?;
     }
-}
-
-fn wide(x: u8) -> usize {
-    x as usize
+    Ok(())
 }
 
 // All forty bands, existing or not.
-fn print_bands(name: &[u8], weights: [u8; 40]) {
-    text(name);
-    let mut b = 0;
-    while b < 40 {
-        space();
-        number(wide(weights[b]));
-        b += 1;
+fn print_bands(rt: &impl Print, name: &str, weights: [u8; 40]) -> io::Result<()> {
+    print!(rt; "  {name}")?;
+    for weight in &weights {
+        print!(rt; " {weight}")?;
     }
-    text(b"\n");
+    println!(rt; "")
 }
 
-fn print_caption(there: bool) {
+fn print_caption(rt: &impl Print, there: bool) -> io::Result<()> {
     if there {
-        text(b"  caption yes\n");
+        println!(rt; "  caption yes")
     } else {
-        text(b"  caption no\n");
+        println!(rt; "  caption no")
     }
 }
 
-fn print_header(h: Header) {
-    field(b" slice at", h.slice);
-    text(b"\n");
-    let picture = h.picture;
-    let gains = h.gains;
-    let priorities = h.priorities;
-    print_sizes(picture);
-    print_modes(picture);
-    print_components(h);
-    print_bands(b"  gains", gains);
-    print_bands(b"  priorities", priorities);
-    print_caption(h.caption);
+fn print_header(rt: &impl Print, h: Header) -> io::Result<()> {
+    println!(rt; " slice at {}", h.slice)?;
+    print_sizes(rt, h.picture)?;
+    print_modes(rt, h.picture)?;
+    print_components(rt, h)?;
+    print_bands(rt, "gains", h.gains)?;
+    print_bands(rt, "priorities", h.priorities)?;
+    print_caption(rt, h.caption)
 }
 
-fn print_answer(v: Verdict, h: Header) {
+fn print_answer(rt: &impl Print, v: Verdict, h: Header) -> io::Result<()> {
     match v {
-        Verdict::Fine => print_header(h),
-        Verdict::Refused(c) => {
-            let row = c.0;
-            field(b" answer", rows::number(row) as usize);
-            field(b" at", c.1);
-            text(b"\n");
-        }
+        Verdict::Fine => print_header(rt, h),
+        Verdict::Refused(c) => println!(rt; " answer {} at {}", rows::number(c.0), c.1),
     }
 }
 
-fn print_stream(name: &[u8], s: &[u8]) {
-    text(name);
-    text(b":");
+fn print_stream(rt: &impl Print, name: &str, s: &[u8]) -> io::Result<()> {
+    print!(rt; "{name}:")?;
     let r = header::read(s);
-    let verdict = r.verdict;
-    let h = r.header;
-    print_answer(verdict, h);
+    print_answer(rt, r.verdict, r.header)
 }
 
-// The file that argument i names, of at most 65,535 bytes.
-fn print_file(i: usize) {
-    let mut name = io::buffer();
-    let n = os::arg(i, &mut name);
-    let file = os::open_read(&name[..n]);
-    if file < 0 {
-        os::fail(&name[..n]);
-        return;
-    }
-    let mut buffer = io::large_buffer();
-    let size = io::read_full(file, &mut buffer);
-    libc::close(file);
+// The file of this name, of at most 65,535 bytes. Where it cannot be opened, standard error says so.
+fn print_file(rt: &(impl Files + Print + Eprint), name: &str) -> io::Result<()> {
+    let mut file = match fs::open(rt, name) {
+        Ok(file) => file,
+        Err(e) => return eprintln!(rt; "{name}: {e}"),
+    };
+    let mut buffer = [0u8; 65536];
+    let size = read_full(&mut file, &mut buffer)?;
     // a buffer that is full may not hold the whole file
     if 65535 < size {
-        text(&name[..n]);
-        text(b": longer than 65535 bytes\n");
-        return;
+        return println!(rt; "{name}: longer than 65535 bytes");
     }
-    print_stream(&name[..n], &buffer[..size]);
+    print_stream(rt, name, &buffer[..size])
 }
 
-fn main() {
-    let count = os::arg_count();
-    let mut i = 1;
-    while i < count {
-        print_file(i);
-        i += 1;
+fn main(rt: HostRuntime) -> io::Result<()> {
+    for name in env::args(&rt)?.skip(1) {
+        print_file(&rt, name.as_str())?;
     }
+    Ok(())
 }

@@ -1,28 +1,20 @@
 // Reads the header of each file that is named, and prints what Annex B makes of it: components, slices, precincts, packets and their lines.
 #![tactic(auto)]
 
-ghost use Rattle.std.specs.Prelude.{◌≡◌, ◌*◌, ◌<◌, ◌≤◌, ◌^◌};
+ghost use Rattle.std.specs.Prelude.{◌≡◌, ◌*◌, ◌<◌, ◌≤◌, ◌^◌, IfOk};
 ghost use Rattle.layout.specs.Built.{Built};
 ghost use Rattle.layout.specs.Precincts.{Npx, Npy, slices};
 ghost use Rattle.layout.specs.Slots.{slots};
 ghost use Rattle.rows.specs.declared.Verdict.TheVariants.{Fine};
 
+use input::read_full;
 use layout::bands::component_of;
 use layout::lines::{candidate_count, line_at, slot_count};
 use layout::precincts::{precinct_columns, precinct_rows, precincts_in_slice, slice_count};
 use layout::{Line, Shape};
-use libc::STDOUT_FILENO;
 use rows::Verdict;
-
-fn text(bytes: &[u8]) {
-    io::write_all(STDOUT_FILENO, bytes);
-}
-
-fn field(name: &[u8], n: usize) {
-    text(name);
-    text(b" ");
-    io::print_decimal(STDOUT_FILENO, n as u64);
-}
+use std::fs::Files;
+use std::{env, fs, io};
 
 fn product(a: usize, b: usize) -> usize
     requires { (a < 2 ^ 30) × (b < 2 ^ 30) }
@@ -31,50 +23,40 @@ fn product(a: usize, b: usize) -> usize
     a * b
 }
 
-fn print_component(s: Shape, i: usize)
+fn print_component(rt: &impl Print, s: Shape, i: usize) -> io::Result<()>
     requires { Built s × (i < s.nc) }
 {
     let c = component_of(s, i);
-    field(b"component", i);
-    field(b" width", c.w);
-    field(b" height", c.h);
-    text(b"\n");
+    println!(rt; "component {i} width {} height {}", c.w, c.h)
 }
 
-fn print_components(s: Shape)
+fn print_components(rt: &impl Print, s: Shape) -> io::Result<()>
     requires { Built s }
 {
-    let count = s.nc;
-    let mut i = 0;
-    while i < count {
-        print_component(s, i);
-        i += 1;
+    for i in 0..s.nc {
+        print_component(rt, s, i)?;
     }
+    Ok(())
 }
 
 // Slice t, whose first row of precincts is t times Hsl.
-fn print_slice(s: Shape, t: usize)
+fn print_slice(rt: &impl Print, s: Shape, t: usize) -> io::Result<()>
     requires { Built s × (t < slices s) }
 {
     let count = precincts_in_slice(s, t);
     let columns = precinct_columns(s);
     let top = product(t, s.hsl);
     let first = product(top, columns);
-    field(b"slice", t);
-    field(b" first", first);
-    field(b" count", count);
-    text(b"\n");
+    println!(rt; "slice {t} first {first} count {count}")
 }
 
-fn print_slices(s: Shape)
+fn print_slices(rt: &impl Print, s: Shape) -> io::Result<()>
     requires { Built s }
 {
-    let count = slice_count(s);
-    let mut t = 0;
-    while t < count {
-        print_slice(s, t);
-        t += 1;
+    for t in 0..slice_count(s) {
+        print_slice(rt, s, t)?;
     }
+    Ok(())
 }
 
 fn one_if(t: bool) -> usize
@@ -89,161 +71,132 @@ fn line_count(s: Shape, row: usize, column: usize, k: usize) -> usize
 {
     let count = candidate_count(s, k);
     let mut n = 0;
-    let mut j = 0;
-    while j < count {
+    for j in 0..count {
         let l = line_at(s, row, column, k, j);
         n += one_if(l.present);
-        j += 1;
     }
     n
 }
 
-fn print_line(l: Line) {
-    if l.present {
-        field(b"line band", l.band);
-        field(b" component", l.component);
-        field(b" y", l.y);
-        field(b" width", l.width);
-        field(b" cell", l.cell);
-        text(b"\n");
+fn print_line(rt: &impl Print, l: Line) -> io::Result<()> {
+    if !l.present {
+        return Ok(());
     }
+    print!(rt; "line band {} component {} y {}", l.band, l.component, l.y)?;
+    println!(rt; " width {} cell {}", l.width, l.cell)
 }
 
-fn print_lines(s: Shape, row: usize, column: usize, k: usize)
+fn print_lines(rt: &impl Print, s: Shape, row: usize, column: usize, k: usize) -> io::Result<()>
     requires { Built s × (row < Npy s) × (column < Npx s) × (k < slots s) }
 {
-    let count = candidate_count(s, k);
-    let mut j = 0;
-    while j < count {
-        print_line(line_at(s, row, column, k, j));
-        j += 1;
+    for j in 0..candidate_count(s, k) {
+        print_line(rt, line_at(s, row, column, k, j))?;
     }
+    Ok(())
 }
 
 // Slot k, the packet with this number if it is one. How many packets it is.
-fn print_packet(s: Shape, row: usize, column: usize, k: usize, number: usize) -> usize
+fn print_packet(
+    rt: &impl Print,
+    s: Shape,
+    row: usize,
+    column: usize,
+    k: usize,
+    number: usize,
+) -> io::Result<usize>
     requires { Built s × (row < Npy s) × (column < Npx s) × (k < slots s) }
-    ensures { result ≤ 1 }
+    ensures { IfOk result (λ n. n ≤ 1) }
 {
     let lines = line_count(s, row, column, k);
     if lines == 0 {
-        return 0;
+        return Ok(0);
     }
-    field(b"packet", number);
-    field(b" lines", lines);
-    text(b"\n");
-    print_lines(s, row, column, k);
-    1
+    println!(rt; "packet {number} lines {lines}")?;
+    print_lines(rt, s, row, column, k)?;
+    Ok(1)
 }
 
-fn print_packets(s: Shape, row: usize, column: usize)
+fn print_packets(rt: &impl Print, s: Shape, row: usize, column: usize) -> io::Result<()>
     requires { Built s × (row < Npy s) × (column < Npx s) }
 {
-    let count = slot_count(s);
     let mut number = 0;
-    let mut k = 0;
-    while k < count {
-        number += print_packet(s, row, column, k, number);
-        k += 1;
+    for k in 0..slot_count(s) {
+        number += print_packet(rt, s, row, column, k, number)?;
     }
+    Ok(())
 }
 
-fn print_precinct(s: Shape, row: usize, column: usize)
+fn print_precinct(rt: &impl Print, s: Shape, row: usize, column: usize) -> io::Result<()>
     requires { Built s × (row < Npy s) × (column < Npx s) }
 {
     let columns = precinct_columns(s);
     let first = product(row, columns);
-    field(b"precinct", first + column);
-    field(b" row", row);
-    field(b" column", column);
-    text(b"\n");
-    print_packets(s, row, column);
+    println!(rt; "precinct {} row {row} column {column}", first + column)?;
+    print_packets(rt, s, row, column)
 }
 
-fn print_row(s: Shape, row: usize)
+fn print_row(rt: &impl Print, s: Shape, row: usize) -> io::Result<()>
     requires { Built s × (row < Npy s) }
 {
-    let count = precinct_columns(s);
-    let mut column = 0;
-    while column < count {
-        print_precinct(s, row, column);
-        column += 1;
+    for column in 0..precinct_columns(s) {
+        print_precinct(rt, s, row, column)?;
     }
+    Ok(())
 }
 
-fn print_rows(s: Shape)
+fn print_rows(rt: &impl Print, s: Shape) -> io::Result<()>
     requires { Built s }
 {
-    let count = precinct_rows(s);
-    let mut row = 0;
-    while row < count {
-        print_row(s, row);
-        row += 1;
+    for row in 0..precinct_rows(s) {
+        print_row(rt, s, row)?;
     }
+    Ok(())
 }
 
-fn print_layout(s: Shape)
+fn print_layout(rt: &impl Print, s: Shape) -> io::Result<()>
     requires { Built s }
 {
-    print_components(s);
-    field(b"columns", precinct_columns(s));
-    field(b" rows", precinct_rows(s));
-    text(b"\n");
-    print_slices(s);
-    print_rows(s);
+    print_components(rt, s)?;
+    println!(rt; "columns {} rows {}", precinct_columns(s), precinct_rows(s))?;
+    print_slices(rt, s)?;
+    print_rows(rt, s)
 }
 
-fn print_answer(v: Verdict, s: Shape)
+fn print_answer(rt: &impl Print, v: Verdict, s: Shape) -> io::Result<()>
     requires { v ≡ Fine → Built s }
 {
     match v {
-        Verdict::Fine => print_layout(s),
-        Verdict::Refused(c) => {
-            let row = c.0;
-            field(b"answer", rows::number(row) as usize);
-            field(b" at", c.1);
-            text(b"\n");
-        }
+        Verdict::Fine => print_layout(rt, s),
+        Verdict::Refused(c) => println!(rt; "answer {} at {}", rows::number(c.0), c.1),
     }
 }
 
-fn print_stream(name: &[u8], stream: &[u8]) {
-    text(b"stream ");
-    text(name);
-    text(b"\n");
+fn print_stream(rt: &impl Print, name: &str, stream: &[u8]) -> io::Result<()> {
+    println!(rt; "stream {name}")?;
     let r = header::read(stream);
     let verdict = r.verdict;
     let h = r.header;
-    print_answer(verdict, shapes::shape_of(h));
+    print_answer(rt, verdict, shapes::shape_of(h))
 }
 
-// The file that argument i names, of at most 65,535 bytes.
-fn print_file(i: usize) {
-    let mut name = io::buffer();
-    let n = os::arg(i, &mut name);
-    let file = os::open_read(&name[..n]);
-    if file < 0 {
-        os::fail(&name[..n]);
-        return;
-    }
-    let mut buffer = io::large_buffer();
-    let size = io::read_full(file, &mut buffer);
-    libc::close(file);
+// The file of this name, of at most 65,535 bytes. Where it cannot be opened, standard error says so.
+fn print_file(rt: &(impl Files + Print + Eprint), name: &str) -> io::Result<()> {
+    let mut file = match fs::open(rt, name) {
+        Ok(file) => file,
+        Err(e) => return eprintln!(rt; "{name}: {e}"),
+    };
+    let mut buffer = [0u8; 65536];
+    let size = read_full(&mut file, &mut buffer)?;
     // a buffer that is full may not hold the whole file
     if 65535 < size {
-        text(b"stream ");
-        text(&name[..n]);
-        text(b"\nlonger than 65535 bytes\n");
-        return;
+        return println!(rt; "stream {name}\nlonger than 65535 bytes");
     }
-    print_stream(&name[..n], &buffer[..size]);
+    print_stream(rt, name, &buffer[..size])
 }
 
-fn main() {
-    let count = os::arg_count();
-    let mut i = 1;
-    while i < count {
-        print_file(i);
-        i += 1;
+fn main(rt: HostRuntime) -> io::Result<()> {
+    for name in env::args(&rt)?.skip(1) {
+        print_file(&rt, name.as_str())?;
     }
+    Ok(())
 }

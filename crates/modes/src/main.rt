@@ -6,43 +6,38 @@
 //   c  the same in spite of damage, without its marks
 #![tactic(auto)]
 
-use libc::{STDIN_FILENO, STDOUT_FILENO};
+use input::read_full;
 use show::modes::Mode;
+use std::io;
 
-fn print(text: &[u8]) {
-    io::write_all(STDOUT_FILENO, text);
-}
-
-fn print_page(mode: Mode, stream: &[u8]) {
+fn print_page(rt: &impl Print, mode: Mode, stream: &[u8]) -> io::Result<()> {
     if 16384 < stream.len() {
-        print(b"input too long\n");
-        return;
+        return println!(rt; "input too long");
     }
-    let mut text = io::large_buffer();
+    let mut text = [0u8; 65536];
     let told = show::modes::text_of(mode, stream, &mut text);
     let size = told.size;
-    print(&text[..size]);
+    rt.write_all(&text[..size])
 }
 
 // The letter is judged first, then the stream's length.
-fn print_mode(letter: u8, stream: &[u8]) {
+fn print_mode(rt: &impl Print, letter: u8, stream: &[u8]) -> io::Result<()> {
     match letter {
-        b'd' => print_page(Mode::Damaged, stream),
-        b'p' => print_page(Mode::Places, stream),
-        b'q' => print_page(Mode::DamagedPlaces, stream),
-        b'b' => print_page(Mode::Bytes, stream),
-        b'c' => print_page(Mode::DamagedBytes, stream),
-        _ => print(b"unknown mode\n"),
+        b'd' => print_page(rt, Mode::Damaged, stream),
+        b'p' => print_page(rt, Mode::Places, stream),
+        b'q' => print_page(rt, Mode::DamagedPlaces, stream),
+        b'b' => print_page(rt, Mode::Bytes, stream),
+        b'c' => print_page(rt, Mode::DamagedBytes, stream),
+        _ => println!(rt; "unknown mode"),
     }
 }
 
-fn main() {
-    let mut input = io::large_buffer();
-    let n = io::read_full(STDIN_FILENO, &mut input);
+fn main(rt: HostRuntime) -> io::Result<()> {
+    let mut input = [0u8; 65536];
+    let n = read_full(&mut rt.reader(), &mut input)?;
     if n == 0 {
-        print(b"unknown mode\n");
-        return;
+        return println!(rt; "unknown mode");
     }
     let letter = input[0];
-    print_mode(letter, &input[1..n]);
+    print_mode(&rt, letter, &input[1..n])
 }

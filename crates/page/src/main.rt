@@ -1,18 +1,18 @@
 // Reads a page from standard input, of at most 16,384 bytes and 2,048 samples, and prints it.
 #![tactic(auto)]
 
-use libc::{STDIN_FILENO, STDOUT_FILENO};
+use input::read_full;
 use show::modes::Mode;
+use std::io;
 
-fn main() {
-    let mut stream = io::large_buffer();
-    let n = io::read_full(STDIN_FILENO, &mut stream);
+fn main(rt: HostRuntime) -> io::Result<()> {
+    let mut stream = [0u8; 65536];
+    let n = read_full(&mut rt.reader(), &mut stream)?;
     if 16384 < n {
-        io::write_all(STDOUT_FILENO, b"input too long\n");
-        return;
+        return println!(rt; "input too long");
     }
-    let mut text = io::large_buffer();
+    let mut text = [0u8; 65536];
     let told = show::modes::text_of(Mode::Plain, &stream[..n], &mut text);
     let size = told.size;
-    io::write_all(STDOUT_FILENO, &text[..size]);
+    rt.write_all(&text[..size])
 }

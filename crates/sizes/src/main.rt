@@ -2,11 +2,13 @@
 // many agreed.
 #![tactic(auto)]
 
-ghost use Rattle.std.specs.Prelude.{◌≤◌, ◌<◌, length};
-ghost use Rattle.io.specs.Counts.{IsPrefixLen};
+ghost use Rattle.std.specs.Prelude.{◌≤◌, ◌<◌, length, IfOk};
+ghost use Rattle.std.specs.Io.{ReadsAtMost};
 
-use libc::STDOUT_FILENO;
+use input::read_full;
 use quantiser::scaled_coefficient;
+use std::fs::Files;
+use std::{env, fs, io};
 
 // A number of the text, and the place behind it and the byte that ends it.
 #[derive(Clone, Copy)]
@@ -23,14 +25,6 @@ struct Line {
     v: u64,
     size: u64,
     next: usize,
-}
-
-fn text(bytes: &[u8]) {
-    io::write_all(STDOUT_FILENO, bytes);
-}
-
-fn number(n: u64) {
-    io::print_decimal(STDOUT_FILENO, n);
 }
 
 fn is_digit(b: u8) -> bool {
@@ -103,65 +97,54 @@ fn agreed(m: u64, t: u64, v: u64, size: u64) -> usize
     if c == size as i64 { 1 } else { 0 }
 }
 
-fn print_line(l: Line) {
-    number(l.m);
-    text(b" ");
-    number(l.t);
-    text(b" ");
-    number(l.v);
-    text(b" ");
-    number(l.size);
-    text(b" differs\n");
+fn print_line(rt: &impl Print, l: Line) -> io::Result<()> {
+    println!(rt; "{} {} {} {} differs", l.m, l.t, l.v, l.size)
 }
 
-fn judged(l: Line) -> usize
-    ensures { result ≤ 1 }
+fn judged(rt: &impl Print, l: Line) -> io::Result<usize>
+    ensures { IfOk result (λ n. n ≤ 1) }
 {
     let n = agreed(l.m, l.t, l.v, l.size);
     if n == 0 {
-        print_line(l);
+        print_line(rt, l)?;
     }
-    n
+    Ok(n)
 }
 
-fn print_tally(agreed: usize, differing: usize) {
-    number(agreed as u64);
-    text(b" agreed, ");
-    number(differing as u64);
-    text(b" differing\n");
+fn print_tally(rt: &impl Print, agreed: usize, differing: usize) -> io::Result<()> {
+    println!(rt; "{agreed} agreed, {differing} differing")
 }
 
-fn compare(lines: &[u8]) {
+fn compare(rt: &impl Print, lines: &[u8]) -> io::Result<()> {
     let mut all = 0;
     let mut count = 0;
     let mut at = 0;
     while at < lines.len() {
         let l = line_at(lines, at);
         at = l.next;
-        all += judged(l);
+        all += judged(rt, l)?;
         count += 1;
     }
-    print_tally(all, count - all);
+    print_tally(rt, all, count - all)
 }
 
-// The file that the first argument names: as much of it as `to` takes. Nothing where it is missing, which standard error then says.
-fn read_named(to: &mut [u8]) -> usize
-    ensures { IsPrefixLen result to.new }
+// The file of this name: as much of it as `to` takes. Nothing where it cannot be opened, which standard error then says.
+fn read_named(rt: &(impl Files + Eprint), name: &str, to: &mut [u8]) -> io::Result<usize>
+    ensures { ReadsAtMost result to.new }
 {
-    let mut name = io::buffer();
-    let n = os::arg(1, &mut name);
-    let file = os::open_read(&name[..n]);
-    if file < 0 {
-        os::fail(&name[..n]);
-        return 0;
+    match fs::open(rt, name) {
+        Ok(mut file) => read_full(&mut file, to),
+        Err(e) => {
+            eprintln!(rt; "{name}: {e}")?;
+            Ok(0)
+        }
     }
-    let size = io::read_full(file, to);
-    libc::close(file);
-    size
 }
 
-fn main() {
-    let mut lines = io::large_buffer();
-    let n = read_named(&mut lines);
-    compare(&lines[..n]);
+// The first argument names the file.
+fn main(rt: HostRuntime) -> io::Result<()> {
+    let name = env::args(&rt)?.nth(1);
+    let mut lines = [0u8; 65536];
+    let n = read_named(&rt, name.as_ref().map_or("", |s| s.as_str()), &mut lines)?;
+    compare(&rt, &lines[..n])
 }

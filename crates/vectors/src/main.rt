@@ -9,43 +9,44 @@
 // names of those that differ, how many agreed, and how many had a caption's yes or no stored.
 #![tactic(auto)]
 
-ghost use Rattle.std.specs.Prelude.{◌<◌, ◌≤◌};
+ghost use Rattle.std.specs.Prelude.{◌≡◌, ◌<◌, ◌≤◌, ◌++◌, IfOk, string_bytes};
+ghost use Rattle.std.specs.Io.{ReadsAtMost};
 ghost use Rattle.io.specs.Counts.{IsPrefixLen};
 
-use libc::STDOUT_FILENO;
+use input::read_full;
 use show::modes::{Mode, Told, text_of};
+use std::alloc::{AllocError, Global};
+use std::fs::Files;
+use std::{env, fs, io};
 
-fn text(bytes: &[u8]) {
-    io::write_all(STDOUT_FILENO, bytes);
-}
-
-fn number(n: usize) {
-    io::print_decimal(STDOUT_FILENO, n as u64);
-}
-
-fn path_of(name: &[u8], ending: &[u8], out: &mut [u8]) -> usize
-    ensures { IsPrefixLen result out.new }
+fn path_of(alloc: Global, name: &str, ending: &str) -> Result<String, AllocError>
+    ensures { IfOk result (λ path. string_bytes path ≡ name.now ++ ending.now) }
 {
-    let stem = show::put(out, 0, name);
-    show::put(out, stem, ending)
+    let mut path = String::from_str(alloc, name)?;
+    path.push_str(ending)?;
+    Ok(path)
 }
 
-// The file NAME.ENDING: as much of it as `to` takes. Nothing where it is missing, which standard error then says if it is needed.
-fn read_file(name: &[u8], ending: &[u8], needed: bool, to: &mut [u8]) -> usize
-    ensures { IsPrefixLen result to.new }
+// The file NAME.ENDING: as much of it as `to` takes. Nothing where it cannot be opened, which standard error then says if it is needed.
+fn read_file(
+    rt: &(impl Files + Eprint + AllocGlobal),
+    name: &str,
+    ending: &str,
+    needed: bool,
+    to: &mut [u8],
+) -> io::Result<usize>
+    ensures { ReadsAtMost result to.new }
 {
-    let mut path = io::buffer();
-    let n = path_of(name, ending, &mut path);
-    let file = os::open_read(&path[..n]);
-    if file < 0 {
-        if needed {
-            os::fail(&path[..n]);
+    let path = path_of(rt.alloc(), name, ending)?;
+    match fs::open(rt, path.as_str()) {
+        Ok(mut file) => read_full(&mut file, to),
+        Err(e) => {
+            if needed {
+                eprintln!(rt; "{path}: {e}")?;
+            }
+            Ok(0)
         }
-        return 0;
     }
-    let size = io::read_full(file, to);
-    libc::close(file);
-    size
 }
 
 // What a word is: that of a mode, or a stream's name.
@@ -55,86 +56,85 @@ enum Word {
     Name,
 }
 
-fn word_is(word: &[u8]) -> Word {
-    if check::same(word, b"--damaged") {
-        return Word::Mode(Mode::Damaged);
+fn word_is(word: &str) -> Word {
+    match word {
+        "--damaged" => Word::Mode(Mode::Damaged),
+        "--places" => Word::Mode(Mode::Places),
+        "--damaged-places" => Word::Mode(Mode::DamagedPlaces),
+        "--bytes" => Word::Mode(Mode::Bytes),
+        "--damaged-bytes" => Word::Mode(Mode::DamagedBytes),
+        _ => Word::Name,
     }
-    if check::same(word, b"--places") {
-        return Word::Mode(Mode::Places);
-    }
-    if check::same(word, b"--damaged-places") {
-        return Word::Mode(Mode::DamagedPlaces);
-    }
-    if check::same(word, b"--bytes") {
-        return Word::Mode(Mode::Bytes);
-    }
-    if check::same(word, b"--damaged-bytes") {
-        return Word::Mode(Mode::DamagedBytes);
-    }
-    Word::Name
 }
 
-fn read_stored(mode: Mode, name: &[u8], to: &mut [u8]) -> usize
-    ensures { IsPrefixLen result to.new }
+fn read_stored(
+    rt: &(impl Files + Eprint + AllocGlobal),
+    mode: Mode,
+    name: &str,
+    to: &mut [u8],
+) -> io::Result<usize>
+    ensures { ReadsAtMost result to.new }
 {
     match mode {
         Mode::Plain | Mode::Damaged | Mode::Places | Mode::Bytes => read_file(
-            name, b".txt", true, to,
+            rt, name, ".txt", true, to,
         ),
-        Mode::DamagedPlaces | Mode::DamagedBytes => read_file(name, b".damaged.txt", true, to),
+        Mode::DamagedPlaces | Mode::DamagedBytes => read_file(rt, name, ".damaged.txt", true, to),
     }
 }
 
-fn page_of(mode: Mode, name: &[u8], out: &mut [u8]) -> Told
-    ensures { IsPrefixLen result.size out.new }
+fn page_of(
+    rt: &(impl Files + Eprint + AllocGlobal),
+    mode: Mode,
+    name: &str,
+    out: &mut [u8],
+) -> io::Result<Told>
+    ensures { IfOk result (λ told. IsPrefixLen told.size out.new) }
 {
-    let mut stream = io::large_buffer();
-    let n = read_file(name, b".jxs", true, &mut stream);
-    text_of(mode, &stream[..n], out)
+    let mut stream = [0u8; 65536];
+    let n = read_file(rt, name, ".jxs", true, &mut stream)?;
+    Ok(text_of(mode, &stream[..n], out))
 }
 
 // How many bytes stand before the first line's end.
 fn first_line(bytes: &[u8]) -> usize
     ensures { IsPrefixLen result bytes.now }
 {
-    let mut i = 0;
-    while i < bytes.len() {
-        if bytes[i] == b'\n' {
-            break;
+    for (i, b) in bytes.iter().enumerate() {
+        if *b == b'\n' {
+            return i;
         }
-        i += 1;
     }
-    i
+    bytes.len()
 }
 
-fn print_line(bytes: &[u8]) {
+fn print_line(rt: &impl Print, bytes: &[u8]) -> io::Result<()> {
     let n = first_line(bytes);
-    text(&bytes[..n]);
+    rt.write_all(&bytes[..n])
 }
 
-fn print_difference(name: &[u8], page: &[u8], stored: &[u8]) {
-    text(name);
-    text(b": ");
-    print_line(page);
-    text(b", not ");
-    print_line(stored);
-    text(b"\n");
+fn print_difference(rt: &impl Print, name: &str, page: &[u8], stored: &[u8]) -> io::Result<()> {
+    print!(rt; "{name}: ")?;
+    print_line(rt, page)?;
+    print!(rt; ", not ")?;
+    print_line(rt, stored)?;
+    println!(rt; "")
 }
 
 // Whether an answer is the stored one.
-fn compared(name: &[u8], answer: &[u8], stored: &[u8]) -> bool {
-    if check::same(answer, stored) {
-        return true;
+fn compared(rt: &impl Print, name: &str, answer: &[u8], stored: &[u8]) -> io::Result<bool> {
+    if answer == stored {
+        return Ok(true);
     }
-    print_difference(name, answer, stored);
-    false
+    print_difference(rt, name, answer, stored)?;
+    Ok(false)
 }
 
-fn compared_caption(name: &[u8], caption: bool, stored: &[u8]) -> bool {
+fn compared_caption(rt: &impl Print, name: &str, caption: bool, stored: &[u8]) -> io::Result<bool> {
     if caption {
-        compared(name, b"caption yes\n", stored)
+        compared(rt, name, b"caption yes\n", stored)
     } else {
-        compared(name, b"caption no\n", stored)
+        compared(rt, name, b"caption no\n", stored)
     }
 }
 
@@ -145,28 +145,32 @@ struct Outcome {
     told: usize,
 }
 
-fn outcome_of(mode: Mode, name: &[u8]) -> Outcome
-    ensures { (result.agreed ≤ 1) × (result.told ≤ 1) }
+fn outcome_of(
+    rt: &(impl Files + Print + Eprint + AllocGlobal),
+    mode: Mode,
+    name: &str,
+) -> io::Result<Outcome>
+    ensures { IfOk result (λ o. (o.agreed ≤ 1) × (o.told ≤ 1)) }
 {
-    let mut page = io::large_buffer();
-    let said = page_of(mode, name, &mut page);
+    let mut page = [0u8; 65536];
+    let said = page_of(rt, mode, name, &mut page)?;
     let size = said.size;
-    let mut stored = io::large_buffer();
-    let wanted = read_stored(mode, name, &mut stored);
-    let same = compared(name, &page[..size], &stored[..wanted]);
-    let mut line = io::buffer();
-    let told = read_file(name, b".caption", false, &mut line);
+    let mut stored = [0u8; 65536];
+    let wanted = read_stored(rt, mode, name, &mut stored)?;
+    let same = compared(rt, name, &page[..size], &stored[..wanted])?;
+    let mut line = [0u8; 4096];
+    let told = read_file(rt, name, ".caption", false, &mut line)?;
     if told == 0 {
-        return Outcome {
+        return Ok(Outcome {
             agreed: one_if(same),
             told: 0,
-        };
+        });
     }
-    let yes = compared_caption(name, said.caption, &line[..told]);
-    Outcome {
+    let yes = compared_caption(rt, name, said.caption, &line[..told])?;
+    Ok(Outcome {
         agreed: one_if(same & yes),
         told: 1,
-    }
+    })
 }
 
 // The mode that the words have come to, and of the streams before how many there were, how many agreed, and of how many a caption's yes or no was stored.
@@ -179,29 +183,30 @@ struct Tally {
 }
 
 // And word i.
-fn with_word(t: Tally, i: usize) -> Tally
+fn with_word(
+    rt: &(impl Files + Print + Eprint + AllocGlobal),
+    t: Tally,
+    i: usize,
+    word: &str,
+) -> io::Result<Tally>
     requires { (t.agreed ≤ t.streams) × (t.told ≤ t.streams) × (t.streams < i) }
-    ensures { (result.agreed ≤ result.streams) × (result.told ≤ result.streams) × (result.streams ≤ i) }
+    ensures { IfOk result (λ r. (r.agreed ≤ r.streams) × (r.told ≤ r.streams) × (r.streams ≤ i)) }
 {
-    let mut word = io::buffer();
-    let n = os::arg(i, &mut word);
-    let mode = t.mode;
-    let kind = word_is(&word[..n]);
-    match kind {
-        Word::Mode(m) => Tally {
+    match word_is(word) {
+        Word::Mode(m) => Ok(Tally {
             mode: m,
             streams: t.streams,
             agreed: t.agreed,
             told: t.told,
-        },
+        }),
         Word::Name => {
-            let o = outcome_of(mode, &word[..n]);
-            Tally {
-                mode,
+            let o = outcome_of(rt, t.mode, word)?;
+            Ok(Tally {
+                mode: t.mode,
                 streams: t.streams + 1,
                 agreed: t.agreed + o.agreed,
                 told: t.told + o.told,
-            }
+            })
         }
     }
 }
@@ -212,27 +217,20 @@ fn one_if(b: bool) -> usize
     if b { 1 } else { 0 }
 }
 
-fn print_tally(agreed: usize, differing: usize, told: usize) {
-    number(agreed);
-    text(b" agreed, ");
-    number(differing);
-    text(b" differing; ");
-    number(told);
-    text(b" with a caption's yes or no\n");
+fn print_tally(rt: &impl Print, agreed: usize, differing: usize, told: usize) -> io::Result<()> {
+    println!(rt; "{agreed} agreed, {differing} differing; {told} with a caption's yes or no")
 }
 
-fn main() {
-    let count = os::arg_count();
+fn main(rt: HostRuntime) -> io::Result<()> {
     let mut t = Tally {
         mode: Mode::Plain,
         streams: 0,
         agreed: 0,
         told: 0,
     };
-    let mut i = 1;
-    while i < count {
-        t = with_word(t, i);
-        i += 1;
+    let words: Vec<String> = env::args(&rt)?.skip(1).collect(rt.alloc())?;
+    for (i, word) in words.iter().enumerate() {
+        t = with_word(&rt, t, i + 1, word.as_str())?;
     }
-    print_tally(t.agreed, t.streams - t.agreed, t.told);
+    print_tally(&rt, t.agreed, t.streams - t.agreed, t.told)
 }
