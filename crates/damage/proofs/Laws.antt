@@ -1,6 +1,6 @@
 -- What the stream leaves in the mode of damaged pages, accepted or refused: as many cells, their size, and the largest T. Assumes nothing.
 use Prim.Native.Nat.{ℕ, zero, suc, ◌+◌, ◌^◌, ◌≤◌, ◌<◌}
-use mathlib.Core.Path.{◌≡◌, refl, ap, sym, ◌∙◌}
+use mathlib.Core.Path.{◌≡◌, refl, ap, ◌∙◌}
 use mathlib.Core.Bool.{Bool, true, false, cond}
 use mathlib.Core.List.{List}
 use native.Mathlib.Omega.{arith}
@@ -25,7 +25,7 @@ use Rattle.slices.specs.Slice.{State, Left, slice_header_bytes}
 use Rattle.slices.specs.Stream.{ended}
 use Rattle.slices.specs.Walk.{walk_slice}
 use Rattle.slices.specs.Reached.{slice_has}
-use Rattle.slices.proofs.Laws.{PacketsKeep, precincts_keeps, length_kept, bounded_kept, ended_ends, Few, raised_few, raised_length, precincts_tops}
+use Rattle.slices.proofs.Laws.{PacketsKeep, precincts_keeps, length_kept, bounded_kept, Few, raised_few, precincts_tops}
 use Rattle.slices.proofs.Largest.{slice_most}
 use Rattle.damage.specs.Lost.{in_slice, lost_count, lost_cell, lose_before, lose}
 use Rattle.damage.specs.Stream.{behind_slice, precincts_of, stepped_over, damaged_turn, stream_by, before_damaged, spoilt}

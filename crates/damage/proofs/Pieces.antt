@@ -7,7 +7,6 @@ use native.Mathlib.Omega.{arith}
 use lib.IntN.{ℤ}
 use lib.ListN.{length}
 use Rattle.loops.specs.Run.{go, stop}
-use Rattle.loops.specs.Along.{along}
 use Rattle.loops.proofs.Along.{each_along, along_follows}
 use Rattle.loops.proofs.Follows.{go_same, go_stop}
 use Rattle.rows.specs.Rows.{first}

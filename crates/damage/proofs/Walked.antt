@@ -1,6 +1,6 @@
 -- The verdict of a damaged page is that of the walk by declared lengths, whatever stands in the precincts; and an accepted page is left as it is. Assumes nothing.
 use Prim.Native.Nat.{ℕ, ◌+◌, ◌≤◌, ◌<◌}
-use mathlib.Core.Path.{◌≡◌, refl, ap, sym, ◌∙◌}
+use mathlib.Core.Path.{◌≡◌, refl, sym, ◌∙◌}
 use mathlib.Core.Bool.{true, false}
 use mathlib.Core.List.{List}
 use native.Mathlib.Omega.{arith}
@@ -10,8 +10,7 @@ use Rattle.loops.specs.Before.{before}
 use Rattle.loops.proofs.Laws.{Going, begins, goes_on, stops, ends, Kept, run_carries}
 use Rattle.loops.proofs.Before.{before_carries}
 use Rattle.loops.proofs.Follows.{stop_same, go_stop, run_follows}
-use Rattle.rows.specs.Rows.{number, first, answer}
-use Rattle.rows.specs.declared.Check.{Check}
+use Rattle.rows.specs.Rows.{first, answer}
 use Rattle.rows.specs.declared.Verdict.{Verdict}
 use Rattle.rows.specs.declared.Verdict.TheVariants.{Fine, Refused}
 use Rattle.rows.proofs.Sites.{Inside}

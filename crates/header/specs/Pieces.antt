@@ -6,7 +6,6 @@ use Rattle.picture.specs.Opening.{picture_place, picture_bytes}
 use Rattle.picture.specs.Picture.{picture_at}
 use Rattle.picture.specs.Segment.{segment_at}
 use Rattle.picture.specs.declared.picture.Picture.{Picture}
-use Rattle.picture.specs.declared.segment.Segment.{Segment}
 use Rattle.header.specs.Walk.{step}
 use Rattle.header.specs.Turns.{begun}
 use Rattle.header.specs.declared.walk.Walk.{Walk}

@@ -12,7 +12,7 @@ use Rattle.wavelet.specs.Places.{place}
 use Rattle.wavelet.proofs.Halves.{low_inside, high_inside}
 use Rattle.layout.specs.declared.Shape.{Shape}
 use Rattle.layout.specs.Bands.{Wc, Hc, N'y, Nβ, kind, dx, depth, Wb, Hb, exists}
-use Rattle.layout.specs.Cells.{area, inner, cell, start, samples}
+use Rattle.layout.specs.Cells.{area, inner, start, samples}
 use Rattle.layout.specs.Built.{Built}
 use Rattle.layout.specs.Sizes.{component_of}
 use Rattle.layout.proofs.Shapes.{component_small}

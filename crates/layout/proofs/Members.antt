@@ -11,7 +11,6 @@ use borrow.Author.Tests.{eqb-true, eq-eqb}
 use lib.Dec.{eqb}
 use Rattle.whole.specs.Numbers.{ceil_div}
 use Rattle.layout.specs.declared.Shape.{Shape}
-use Rattle.layout.specs.Bands.{band}
 use Rattle.layout.specs.Precincts.{L0}
 use Rattle.layout.specs.Packets.{turns, when, Part, part, included, includes, share}
 use Rattle.layout.specs.Slots.{slot_type, slot_line, candidates, slot}

@@ -10,7 +10,7 @@ use borrow.Author.Tests.{ltb-true}
 use lib.Dec.{eqb, ltb}
 use lib.ListN.{length}
 use Rattle.layout.specs.declared.Shape.{Shape}
-use Rattle.layout.specs.Bands.{sy, Nβ, dx, dy, Hb, exists, band}
+use Rattle.layout.specs.Bands.{sy, Nβ, dx, dy, Hb, exists}
 use Rattle.layout.specs.Built.{Built}
 use Rattle.layout.specs.Precincts.{Npx, first_x, first_y, Wpb, L0}
 use Rattle.layout.specs.Packets.{loop, when, nonempty, packets, included}

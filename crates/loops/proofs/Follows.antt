@@ -1,6 +1,6 @@
 -- Two counting loops side by side: one that follows the other's way to a result, and two whose states stay related. Assumes nothing.
 use Prim.Native.Nat.{ℕ, zero, suc, ◌+◌, ◌≤◌, ◌<◌}
-use mathlib.Core.Path.{◌≡◌, refl, sym, ◌∙◌}
+use mathlib.Core.Path.{◌≡◌, refl, ◌∙◌}
 use native.Mathlib.Omega.{arith}
 use Rattle.loops.specs.Run.{Turn, go, stop, then, run}
 

@@ -14,7 +14,7 @@ use Rattle.loops.specs.Run.{Turn, go, stop, then}
 use Rattle.loops.specs.Before.{before}
 use Rattle.loops.proofs.Laws.{Kept}
 use Rattle.layout.specs.declared.Shape.{Shape}
-use Rattle.layout.specs.Bands.{sy, Wc, dx, depth, band}
+use Rattle.layout.specs.Bands.{sy, Wc, dx, depth}
 use Rattle.layout.specs.Built.{Built}
 use Rattle.layout.specs.Precincts.{first_x, first_y, L0}
 use Rattle.layout.specs.Packets.{part}

@@ -30,7 +30,7 @@ use Rattle.packets.specs.declared.Signed.{Signed}
 use Rattle.packets.specs.declared.Content.{Content}
 use Rattle.packets.specs.Precincts.{stretch}
 use Rattle.packets.specs.Passes.{marks, packet_counts, packet_values}
-use Rattle.packets.specs.Packets.{sign_length, flag_checks, head, raw, Lsig, sig_at, cnt_at, dat_at, Lsign, past, data_bytes, sign_bytes, head_checks, count_checks, data_checks, after_values, values_by, counts_by, counts_of}
+use Rattle.packets.specs.Packets.{sign_length, flag_checks, head, Lsig, sig_at, cnt_at, dat_at, Lsign, data_bytes, sign_bytes, head_checks, count_checks, data_checks, after_values, values_by, counts_by, counts_of}
 use Rattle.packets.specs.Pieces.{count_content, data_content, sign_content}
 use Rattle.packets.specs.Steps.{Working, data_row, IsParts, bound_flag, reached, IsSigned, IsContent}
 use Rattle.packets.proofs.LinePasses.{standing_still}

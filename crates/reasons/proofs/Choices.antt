@@ -1,5 +1,5 @@
 -- Document 02, C-19: the band, the precinct and the truncation position that are named are those that the request asks for, and no others are. Assumes nothing.
-use Prim.Native.Nat.{ℕ, ◌-◌, ◌%◌, ◌^◌, ◌≤◌, ◌<◌}
+use Prim.Native.Nat.{ℕ, ◌%◌, ◌^◌, ◌≤◌, ◌<◌}
 use mathlib.Core.Path.{◌≡◌, refl, sym, ◌∙◌}
 use mathlib.Core.Bool.{Bool, true, false, cond, ◌&&◌}
 use mathlib.Core.List.{List}
@@ -11,13 +11,13 @@ use lib.Dec.{eqb}
 use lib.Pow.{pow_pos}
 use Rattle.layout.specs.Built.{Built}
 use Rattle.layout.specs.Bands.{Nβ, NL, band_exists}
-use Rattle.layout.specs.Precincts.{largest, Npy}
+use Rattle.layout.specs.Precincts.{Npy}
 use Rattle.layout.proofs.Columns.{largest_of_lem, largest_reached, Npx_some}
 use Rattle.layout.proofs.Members.{true_false}
 use Rattle.layout.proofs.Sizes.{ceil_some}
 use Rattle.packets.specs.declared.Setting.{Setting}
 use Rattle.slices.proofs.PrecinctCoefficients.{both_true}
-use Rattle.loops.specs.Lowest.{lowest, some}
+use Rattle.loops.specs.Lowest.{some}
 use Rattle.reasons.specs.Coarsest.{all, held_by, truncation_of, largest_in, largest_of, has_largest, band_of, precinct_number, Coarsest}
 use Rattle.loops.proofs.Lowest.{lowest_passes, lower_fails, passes_above, passes_some, some_below}
 use Rattle.reasons.proofs.LowestBand.{low_held}

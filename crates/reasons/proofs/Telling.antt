@@ -22,7 +22,7 @@ use Rattle.slices.specs.Walk.{walk_stream}
 use Rattle.damage.specs.Stream.{stream_by}
 use Rattle.reader.specs.declared.judging.Judged.{Judged}
 use Rattle.reader.specs.Settings.{setting_of, N, room_checks}
-use Rattle.reader.specs.Decoding.{begun, decoded, decoded_verdict, tops}
+use Rattle.reader.specs.Decoding.{begun, decoded, decoded_verdict}
 use Rattle.reader.specs.Page.{header_of, lent_verdict, verdict, work_by}
 use Rattle.reader.specs.Modes.{decoded_by, tops_in}
 use Rattle.reader.specs.Steps.{Opened, IsSetting}

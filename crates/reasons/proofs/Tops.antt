@@ -9,10 +9,9 @@ use lib.ListN.{length, get_or}
 use Rattle.rows.specs.declared.Verdict.TheVariants.{Fine}
 use Rattle.layout.specs.Built.{Built}
 use Rattle.layout.specs.Bands.{NL}
-use Rattle.layout.specs.Precincts.{largest, Np, slices}
+use Rattle.layout.specs.Precincts.{Np, slices}
 use Rattle.layout.proofs.Columns.{largest_most}
 use Rattle.packets.specs.declared.Setting.{Setting}
-use Rattle.packets.specs.Precincts.{T}
 use Rattle.slices.specs.Precinct.{holds}
 use Rattle.slices.specs.Slice.{State}
 use Rattle.slices.specs.Stream.{stream}

@@ -23,7 +23,6 @@ use Rattle.layout.proofs.Cells.{Exists}
 use Rattle.layout.proofs.Cover.{row_of_lem, member_line, line_member, column_of, column_member, width_some}
 use Rattle.bits.specs.Groups.{Ng, held_m, held_t}
 use Rattle.counts.proofs.Laws.{held_m_lem, held_t_lem}
-use Rattle.values.specs.Line.{M}
 use Rattle.packets.specs.declared.Setting.{Setting}
 use Rattle.packets.specs.declared.Precinct.{Precinct}
 use Rattle.packets.specs.Precincts.{T}

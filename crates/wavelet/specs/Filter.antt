@@ -1,6 +1,6 @@
 -- E.6 and E.7: a line of samples extended past its ends, and the inverse 5-3 filter over it. The filter's two steps are a parameter, so that
 -- samples (here) and distance numbers (Distance) go the same way.
-use Rattle.std.specs.Prelude.{cond, ℕ, suc, ◌+◌, ◌*◌, ◌-◌, ◌%◌, eqb, ltb, ℤ, pos, negsuc, ◌+ℤ◌, ◌-ℤ◌}
+use Rattle.std.specs.Prelude.{cond, ℕ, suc, ◌*◌, ◌-◌, ◌%◌, eqb, ltb, ℤ, pos, negsuc, ◌+ℤ◌, ◌-ℤ◌}
 use Rattle.std.specs.Int.Signed.{shr_z}
 use Rattle.whole.specs.Numbers.{gap}
 

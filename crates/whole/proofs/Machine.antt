@@ -2,7 +2,7 @@
 -- `0 - z`, and `1 << k` is `(1 * 2 ^ k) % 2 ^ 64`. Assumes nothing.
 use mathlib.Core.Path.{◌≡◌, refl}
 use mathlib.Core.Bool.{true, false}
-use Prim.Native.Nat.{ℕ, zero, suc, ◌+◌, ◌*◌, ◌%◌, ◌^◌, ◌≤◌, ◌<◌}
+use Prim.Native.Nat.{ℕ, suc, ◌+◌, ◌*◌, ◌%◌, ◌^◌, ◌≤◌, ◌<◌}
 use native.Mathlib.Nat.{lt_of_le_of_lt, one-mul}
 use native.Mathlib.Omega.{arith}
 use lib.Dec.{T}

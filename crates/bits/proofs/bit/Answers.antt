@@ -1,7 +1,6 @@
 -- `bits::bit` meets its contract: the bit is a part of its byte. Assumes nothing.
 use Prim.Native.Nat.{◌%◌}
 use native.Mathlib.Omega.{arith}
-use borrow.Author.Rules.{rules}
 use Rattle.bits.proofs.Laws.{is_part}
 use Rattle.bits.proofs.bit.Goals as goal
 

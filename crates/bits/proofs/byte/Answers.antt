@@ -1,6 +1,5 @@
 -- `bits::byte` meets its contract. Assumes nothing.
 use native.Mathlib.Omega.{arith}
-use borrow.Author.Rules.{rules}
 use Rattle.bits.proofs.Laws.{is_byte}
 use Rattle.bits.proofs.byte.Goals as goal
 

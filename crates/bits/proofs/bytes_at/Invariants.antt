@@ -1,10 +1,6 @@
 -- `bits::bytes_at` meets its contract. Invariant: v is the field of the k bytes passed. Assumes nothing.
 use Prim.Native.Nat.{◌-◌, ◌*◌, ◌≤◌}
-use mathlib.Core.Path.{◌≡◌}
-use native.Mathlib.Omega.{arith}
-use borrow.Author.Rules.{rules}
 use Rattle.bits.specs.Fields.{IsField}
-use Rattle.bits.proofs.Laws.{is_within, is_none, is_past, is_joined}
 use Rattle.bits.proofs.bytes_at.Given as goal
 
 abbrev pub invariant-loop-k : goal.invariant-loop-k

@@ -1,7 +1,6 @@
 -- `bits::eight_at` meets its contract: eight bytes, each where the last ends. Assumes nothing.
 use mathlib.Core.Path.{refl}
 use native.Mathlib.Omega.{arith}
-use borrow.Author.Rules.{rules}
 use Rattle.bits.proofs.Laws.{is_joined}
 use Rattle.bits.proofs.eight_at.Goals as goal
 

@@ -1,7 +1,6 @@
 -- `bits::field` meets its contract: the field is a part of the four bytes from its first on. Assumes nothing.
 use Prim.Native.Nat.{◌%◌}
 use native.Mathlib.Omega.{arith}
-use borrow.Author.Rules.{rules}
 use lib.Pow.{pow_pos}
 use Rattle.whole.proofs.Machine.{one_shl}
 use Rattle.bits.proofs.Laws.{is_part}

@@ -1,7 +1,6 @@
 -- `bits::nibble` meets its contract: the nibble is a part of its byte. Assumes nothing.
 use Prim.Native.Nat.{◌*◌, ◌%◌}
 use native.Mathlib.Omega.{arith}
-use borrow.Author.Rules.{rules}
 use Rattle.bits.proofs.Laws.{is_part}
 use Rattle.bits.proofs.nibble.Goals as goal
 

@@ -1,6 +1,5 @@
 -- `bits::u8_at` meets its contract. Assumes nothing.
 use native.Mathlib.Omega.{arith}
-use borrow.Author.Rules.{rules}
 use Rattle.bits.proofs.Laws.{is_byte, is_past}
 use Rattle.bits.proofs.u8_at.Goals as goal
 

@@ -1,5 +1,4 @@
 -- `colour::inverse_numbers` is the pass of kind 1, numbers. Assumes nothing.
-use borrow.Author.Rules.{rules}
 use Rattle.colour.specs.Kinds.{rct_of}
 use Rattle.colour.proofs.inverse_numbers.Goals as goal
 

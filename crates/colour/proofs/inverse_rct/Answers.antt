@@ -1,6 +1,5 @@
 -- `colour::inverse_rct` is the pass of kind 0, samples. Assumes nothing.
 use mathlib.Core.Path.{refl}
-use borrow.Author.Rules.{rules}
 use Rattle.colour.specs.Kinds.{rct_of}
 use Rattle.colour.proofs.inverse_rct.Goals as goal
 

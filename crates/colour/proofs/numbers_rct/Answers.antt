@@ -1,7 +1,6 @@
 -- `colour::numbers_rct` meets its contract. Assumes nothing.
 use mathlib.Core.Path.{refl}
 use Rattle.colour.specs.Rct.{numbers_rct}
-use borrow.Author.Rules.{rules}
 use Rattle.colour.proofs.numbers_rct.Goals as goal
 
 pub returns : goal.returns

@@ -1,7 +1,6 @@
 -- `colour::pixel_at` meets its contract: the pixel's numbers fit before and after, so the cells hold what was stored. Assumes nothing.
 use mir.Facts.{to_z-of_z}
 use Rattle.colour.proofs.Laws.{fitting, fitted}
-use borrow.Author.Rules.{rules}
 use Rattle.colour.proofs.pixel_at.Goals as goal
 
 pub pixel_of-o-requires : goal.pixel_of-o-requires

@@ -1,5 +1,4 @@
 -- `colour::pixel_of` meets its contract. Assumes nothing.
-use borrow.Author.Rules.{rules}
 use borrow.Author.Tests.{eq-eqb, ne_eqb}
 use Rattle.colour.specs.Kinds.{rct_of}
 use Rattle.colour.proofs.pixel_of.Goals as goal

@@ -4,7 +4,6 @@ use Prim.Native.Nat.{◌*◌, ◌^◌, ◌≤◌}
 use native.Mathlib.Omega.{arith}
 use mir.Syntax.{w64}
 use mir.Facts.{to_z-of_z, to_z_pos}
-use borrow.Author.Rules.{rules}
 use Rattle.whole.proofs.Machine.{small_fits}
 use Rattle.colour.specs.Rct.{numbers_rct}
 use Rattle.colour.specs.Kinds.{held, sizes, raised_rct}

@@ -1,10 +1,7 @@
 -- `colour::transform` meets its contract. The invariant: the first x pixels are transformed, and no other cell has changed. Assumes nothing.
 use mathlib.Core.Path.{◌≡◌, sym, subst}
-use Prim.Native.Nat.{◌-◌, ◌≤◌}
 use native.Mathlib.Omega.{arith}
-use borrow.Author.Rules.{rules}
-use Rattle.colour.specs.Kinds.{Holds, rct_of}
-use Rattle.colour.specs.Pass.{TransformedBy}
+use Rattle.colour.specs.Kinds.{Holds}
 use Rattle.colour.proofs.Pass.{pass_starts, pass_here, pass_goes_on}
 use Rattle.colour.proofs.transform.Goals as goal
 

@@ -1,7 +1,6 @@
 -- `counts::group_at` meets its contract: Table C.8, with one way for both predictions. Assumes nothing.
 use mathlib.Core.Path.{sym, ◌∙◌}
 use native.Mathlib.Omega.{arith}
-use borrow.Author.Rules.{rules}
 use Rattle.counts.proofs.Lines.{cell_inside, raw_is, below_is}
 use Rattle.counts.proofs.group_at.Goals as goal
 

@@ -1,7 +1,6 @@
 -- `counts::is_insignificant` meets its contract. Assumes nothing.
 use Prim.Native.Nat.{ℕ}
 use mathlib.Core.Path.{◌∙◌, ap}
-use borrow.Author.Rules.{rules}
 use lib.Dec.{eqb}
 use Rattle.bits.proofs.Laws.{field_one}
 use Rattle.counts.proofs.is_insignificant.Goals as goal

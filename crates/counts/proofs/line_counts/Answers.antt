@@ -1,11 +1,10 @@
 -- `counts::line_counts` meets its contract. Invariant: the groups that are left leave what the whole line leaves. Assumes nothing.
-use Prim.Native.Nat.{◌≤◌, ◌<◌, ◌-◌, ◌*◌}
-use mathlib.Core.Path.{◌≡◌}
+use Prim.Native.Nat.{◌≤◌, ◌<◌}
 use native.Mathlib.Omega.{arith}
 use borrow.Author.Rules.{rules}
 use lib.ListN.{length, length-set}
-use Rattle.loops.proofs.Laws.{Going, begins, goes_on, stops, ends}
-use Rattle.counts.specs.Lines.{count_cell, turn, end, line_counts}
+use Rattle.loops.proofs.Laws.{begins, goes_on, stops, ends}
+use Rattle.counts.specs.Lines.{count_cell, line_counts}
 use Rattle.counts.proofs.Lines.{turn_is, turn_counts, count_sound, cell_inside, ready_still}
 use Rattle.counts.proofs.line_counts.Goals.{In-Count, In-loop-g}
 use Rattle.counts.proofs.line_counts.Goals as goal
@@ -61,15 +60,14 @@ returns-in-Long c =
     stops c.loop-g.invariant.3 c.loop-g-test.true (turn_is _ _ _ _ _ _ _ _ c.group_at.ensures _ c.in-Long.is)
 
 pub loop-g-preserved : goal.loop-g-preserved
-loop-g-preserved c =
-    (
-      omega (arith, c.loop-g-test.true),
-      simp length-set c.loop-g.invariant.1,
-      omega (arith, c.group_nibbles-need.ensures.most, c.loop-g.invariant.2),
-      goes_on c.loop-g.invariant.3 c.loop-g-test.true
-          (turn_counts _ _ _ _ _ _ _ _ c.group_at.ensures _ c.in-Count.is c.to_hold.ensures c.to_hold.type_inv
-          c.count_cell.ensures c.group_nibbles-need.ensures.number),
-    )
+loop-g-preserved c = (
+  omega (arith, c.loop-g-test.true),
+  simp length-set c.loop-g.invariant.1,
+  omega (arith, c.group_nibbles-need.ensures.most, c.loop-g.invariant.2),
+  goes_on c.loop-g.invariant.3 c.loop-g-test.true
+      (turn_counts _ _ _ _ _ _ _ _ c.group_at.ensures _ c.in-Count.is c.to_hold.ensures c.to_hold.type_inv
+      c.count_cell.ensures c.group_nibbles-need.ensures.number),
+)
 
 pub returns : goal.returns
 unfolding line_counts

@@ -1,12 +1,9 @@
 -- `counts::line_counts` meets its contract. Invariant: the groups that are left leave what the whole line leaves. Assumes nothing.
-use Prim.Native.Nat.{◌≤◌, ◌<◌, ◌-◌, ◌*◌}
+use Prim.Native.Nat.{◌≤◌, ◌-◌, ◌*◌}
 use mathlib.Core.Path.{◌≡◌}
-use native.Mathlib.Omega.{arith}
-use borrow.Author.Rules.{rules}
-use lib.ListN.{length, length-set}
-use Rattle.loops.proofs.Laws.{Going, begins, goes_on, stops, ends}
-use Rattle.counts.specs.Lines.{count_cell, turn, end, line_counts}
-use Rattle.counts.proofs.Lines.{turn_is, turn_counts, count_sound, cell_inside, ready_still}
+use lib.ListN.{length}
+use Rattle.loops.proofs.Laws.{Going}
+use Rattle.counts.specs.Lines.{turn, end}
 use Rattle.counts.proofs.line_counts.Given as goal
 
 abbrev pub invariant-loop-g : goal.invariant-loop-g

@@ -1,6 +1,5 @@
 -- `counts::looked_at` meets its contract, by the mode. Assumes nothing.
 use native.Mathlib.Omega.{arith}
-use borrow.Author.Rules.{rules}
 use Rattle.counts.proofs.Lines.{looked_above}
 use Rattle.counts.specs.Steps.{looked_at}
 use Rattle.counts.proofs.looked_at.Goals as goal

@@ -1,6 +1,5 @@
 -- `counts::to_hold` meets its contract. Assumes nothing.
 use native.Mathlib.Omega.{arith}
-use borrow.Author.Rules.{rules}
 use mir.Facts.{to_z_pos}
 use mir.Syntax.{w64}
 use Rattle.counts.proofs.to_hold.Goals as goal

@@ -3,7 +3,6 @@ use mathlib.Core.Path.{refl, ap, ◌∙◌}
 use native.Mathlib.Omega.{arith}
 use Rattle.pieces.specs.Pieces.{Markers, bytes_by, plus, all}
 use Rattle.pieces.proofs.Laws.{piece_once}
-use borrow.Author.Rules.{rules}
 use Rattle.damage.proofs.behind_all.Goals as goal
 
 pub and-whole-requires : goal.and-whole-requires

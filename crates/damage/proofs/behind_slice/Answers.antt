@@ -6,7 +6,6 @@ use Rattle.pieces.specs.Pieces.{Markers, Spoilt, plus, all}
 use Rattle.pieces.proofs.Laws.{piece_once}
 use Rattle.slices.specs.Slice.{slice_header_bytes}
 use Rattle.damage.proofs.Turns.{goes_behind, loses_behind}
-use borrow.Author.Rules.{rules}
 use Rattle.damage.proofs.behind_slice.Goals as goal
 
 pub and-requires : goal.and-requires

@@ -2,7 +2,6 @@
 use mathlib.Core.Path.{refl}
 use Rattle.damage.specs.Stream.{stepped_over, damaged_turn}
 use Rattle.damage.proofs.Turns.{turned_still}
-use borrow.Author.Rules.{rules}
 use Rattle.damage.proofs.damaged_slice.Goals as goal
 
 pub stepped_over-requires : goal.stepped_over-requires

@@ -4,7 +4,6 @@ use Rattle.slices.proofs.SliceLaws.{slice_turned}
 use Rattle.damage.specs.Stream.{turn_by}
 use Rattle.damage.specs.Pieces.{pieces_by}
 use Rattle.damage.proofs.Turns.{turned_still}
-use borrow.Author.Rules.{rules}
 use Rattle.damage.proofs.slice.Goals as goal
 
 pub returns-then-damaged : goal.returns-then-damaged

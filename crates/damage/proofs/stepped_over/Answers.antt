@@ -8,7 +8,6 @@ use Rattle.slices.specs.Slice.{slice_header_bytes}
 use Rattle.slices.proofs.WalkLaws.{slice_ends}
 use Rattle.slices.proofs.Pieces.{precincts_few, headed}
 use Rattle.damage.proofs.Turns.{stepped_on, stepped_back}
-use borrow.Author.Rules.{rules}
 use Rattle.damage.proofs.stepped_over.Goals.{In-Fine}
 use Rattle.damage.proofs.stepped_over.Goals as goal
 

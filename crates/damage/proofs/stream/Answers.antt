@@ -1,20 +1,17 @@
 -- `stream` meets its contract. Assumes nothing.
-use Prim.Native.Nat.{◌≤◌, ◌<◌, ◌-◌}
-use mathlib.Core.Path.{◌≡◌, refl, sym, ap, ◌∙◌}
+use Prim.Native.Nat.{◌≤◌, ◌<◌}
+use mathlib.Core.Path.{refl, sym, ap, ◌∙◌}
 use native.Mathlib.Omega.{arith}
-use lib.ListN.{length}
-use Rattle.loops.proofs.Laws.{Going, begins, goes_on, stops, ends}
+use Rattle.loops.proofs.Laws.{begins, goes_on, stops, ends}
 use Rattle.pieces.specs.Pieces.{bytes_by}
 use Rattle.pieces.proofs.Laws.{adds_up, adds_on, adds_end}
 use Rattle.layout.specs.Precincts.{slices}
 use Rattle.slices.specs.Slice.{State}
-use Rattle.slices.specs.Stream.{ended}
 use Rattle.damage.specs.Stream.{turn_by, stream_by}
 use Rattle.damage.specs.Pieces.{stream_pieces_by}
 use Rattle.slices.proofs.PrecinctLaws.{settled}
 use Rattle.slices.proofs.SliceLaws.{turned_goes, turned_stops, stops_here}
-use Rattle.damage.proofs.Pieces.{turn_tiles, SlicesAdding, slices_begin}
-use borrow.Author.Rules.{rules}
+use Rattle.damage.proofs.Pieces.{turn_tiles, slices_begin}
 use Rattle.damage.proofs.stream.Goals as goal
 
 pub loop-t-init : goal.loop-t-init

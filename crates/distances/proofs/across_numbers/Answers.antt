@@ -1,17 +1,12 @@
 -- `distances::across_numbers` is the first loop of Table E.1: the invariant is `Descending`, the measure the depth. Assumes nothing.
 use mathlib.Core.Path.{sym, ap, ◌∙◌}
-use Prim.Native.Nat.{◌-◌, ◌^◌}
 use native.Mathlib.Omega.{arith}
-use borrow.Author.Rules.{rules}
 use lib.ListN.{get_or}
 use Rattle.quantiser.specs.Distance.{band_number}
-use Rattle.wavelet.specs.Transform.{LL}
 use Rattle.wavelet.specs.Distance.{joined}
 use Rattle.layout.specs.Bands.{band}
-use Rattle.distances.specs.Rule.{number_of}
-use Rattle.distances.specs.Steps.{across_turn}
 use Rattle.distances.proofs.Types.{type_low, type_below}
-use Rattle.distances.proofs.Descent.{Descending, descent_begins, descent_goes_on, descent_ends}
+use Rattle.distances.proofs.Descent.{descent_begins, descent_goes_on, descent_ends}
 use Rattle.distances.proofs.across_numbers.Goals as goal
 
 pub loop-d-init : goal.loop-d-init

@@ -1,9 +1,7 @@
 -- `distances::both_numbers` is the second loop of Table E.1: the invariant is `Descending`, the measure the depth. Assumes nothing.
 use mathlib.Core.Path.{refl}
-use Prim.Native.Nat.{◌^◌}
 use native.Mathlib.Omega.{arith}
-use Rattle.distances.specs.Steps.{both_turn}
-use Rattle.distances.proofs.Descent.{Descending, descent_begins, descent_goes_on, descent_ends}
+use Rattle.distances.proofs.Descent.{descent_begins, descent_goes_on, descent_ends}
 use Rattle.distances.proofs.both_numbers.Goals as goal
 
 pub loop-d-init : goal.loop-d-init

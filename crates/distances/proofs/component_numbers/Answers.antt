@@ -1,12 +1,7 @@
 -- `distances::component_numbers` meets its contract: the loop fills the array with the numbers. Assumes nothing.
 use mathlib.Core.Path.{refl}
-use mathlib.Core.Bool.{cond}
-use Prim.Native.Nat.{◌-◌, ◌≤◌}
 use native.Mathlib.Omega.{arith}
-use borrow.Author.Rules.{rules}
-use lib.Dec.{ltb}
-use Rattle.whole.proofs.Lists.{Filled, filled_none, filled_more, filled_all}
-use Rattle.distances.specs.Rule.{component_number_of}
+use Rattle.whole.proofs.Lists.{filled_none, filled_more, filled_all}
 use Rattle.distances.proofs.component_numbers.Goals as goal
 
 pub loop-i-init : goal.loop-i-init

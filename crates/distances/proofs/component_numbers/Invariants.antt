@@ -1,11 +1,8 @@
 -- `distances::component_numbers` meets its contract: the loop fills the array with the numbers. Assumes nothing.
-use mathlib.Core.Path.{refl}
 use mathlib.Core.Bool.{cond}
 use Prim.Native.Nat.{◌-◌, ◌≤◌}
-use native.Mathlib.Omega.{arith}
-use borrow.Author.Rules.{rules}
 use lib.Dec.{ltb}
-use Rattle.whole.proofs.Lists.{Filled, filled_none, filled_more, filled_all}
+use Rattle.whole.proofs.Lists.{Filled}
 use Rattle.distances.specs.Rule.{component_number_of}
 use Rattle.distances.proofs.component_numbers.Given as goal
 

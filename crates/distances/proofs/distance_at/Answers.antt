@@ -1,6 +1,5 @@
 -- `distances::distance_at` meets its contract. Assumes nothing.
 use native.Mathlib.Omega.{arith}
-use borrow.Author.Rules.{rules}
 use borrow.Author.Tests.{lt-ltb, le-ltb}
 use Rattle.distances.proofs.distance_at.Goals as goal
 

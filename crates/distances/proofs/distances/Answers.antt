@@ -1,12 +1,7 @@
 -- `distances::distances` meets its contract: the loop fills the array with the distances. Assumes nothing.
 use mathlib.Core.Path.{refl, ◌∙◌}
-use mathlib.Core.Bool.{cond}
-use Prim.Native.Nat.{◌-◌, ◌≤◌}
 use native.Mathlib.Omega.{arith}
-use lib.Dec.{ltb}
-use lib.ListN.{get_or}
-use Rattle.whole.proofs.Lists.{Filled, filled_none, filled_more, filled_all}
-use Rattle.output.specs.Linear.{distance}
+use Rattle.whole.proofs.Lists.{filled_none, filled_more, filled_all}
 use Rattle.distances.proofs.Rules.{numbered, numbers_below, entry_below, distances_made}
 use Rattle.distances.proofs.distances.Goals as goal
 

@@ -1,7 +1,5 @@
 -- `distances::number_of` meets its contract: the band's index is inside the array. Assumes nothing.
-use Prim.Native.Nat.{◌<◌}
 use native.Mathlib.Omega.{arith}
-use Rattle.layout.specs.Bands.{band}
 use Rattle.distances.proofs.Types.{band_below}
 use Rattle.distances.proofs.Bounds.{number_small}
 use Rattle.distances.proofs.number_of.Goals as goal

@@ -1,7 +1,6 @@
 -- `distances::type_across` meets its contract. Assumes nothing.
 use mathlib.Core.Path.{sym}
 use native.Mathlib.Omega.{arith}
-use borrow.Author.Rules.{rules}
 use Rattle.wavelet.specs.Transform.{HL}
 use Rattle.distances.proofs.Types.{type_deep, type_even}
 use Rattle.distances.proofs.type_across.Goals as goal

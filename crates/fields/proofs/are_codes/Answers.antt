@@ -1,6 +1,5 @@
 -- `fields::are_codes`: both. Assumes nothing.
 use mathlib.Core.Bool.{◌&&◌}
-use borrow.Author.Rules.{rules}
 use Rattle.fields.proofs.are_codes.Goals as goal
 
 pub returns : goal.returns

@@ -1,6 +1,5 @@
 -- `fields::begin`: its table is what the names' lengths give. Assumes nothing.
 use mathlib.Core.Path.{refl}
-use borrow.Author.Rules.{rules}
 use Rattle.fields.specs.Tables.{begins}
 use Rattle.fields.proofs.begin.Goals as goal
 

@@ -1,12 +1,10 @@
 -- `fields::copied`: letter by letter. Assumes nothing.
-use Prim.Native.Nat.{◌≤◌, ◌-◌}
 use mathlib.Core.Path.{◌≡◌, refl}
 use native.Mathlib.Omega.{arith}
 use lib.ListN.{drop, replicate}
-use lib.Seq.{paste, paste-zero}
+use lib.Seq.{paste-zero}
 use Rattle.fields.specs.Tables.{joined}
 use Rattle.fields.proofs.Listed.{copy_next}
-use borrow.Author.Rules.{rules}
 use Rattle.fields.proofs.copied.Goals as goal
 
 pub loop-i-init : goal.loop-i-init

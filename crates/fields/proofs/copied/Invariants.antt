@@ -1,12 +1,9 @@
 -- `fields::copied`: letter by letter. Assumes nothing.
 use Prim.Native.Nat.{◌≤◌, ◌-◌}
-use mathlib.Core.Path.{◌≡◌, refl}
-use native.Mathlib.Omega.{arith}
+use mathlib.Core.Path.{◌≡◌}
 use lib.ListN.{drop, replicate}
-use lib.Seq.{paste, paste-zero}
+use lib.Seq.{paste}
 use Rattle.fields.specs.Tables.{joined}
-use Rattle.fields.proofs.Listed.{copy_next}
-use borrow.Author.Rules.{rules}
 use Rattle.fields.proofs.copied.Given as goal
 
 abbrev pub invariant-loop-i : goal.invariant-loop-i

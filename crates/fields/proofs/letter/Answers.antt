@@ -1,6 +1,5 @@
 -- `fields::letter`: its table is all names, one behind the other. Assumes nothing.
 use mathlib.Core.Path.{refl}
-use borrow.Author.Rules.{rules}
 use Rattle.fields.specs.Tables.{joined}
 use Rattle.fields.proofs.letter.Goals as goal
 

@@ -5,7 +5,6 @@ use lib.ListN.{drop, replicate}
 use lib.Seq.{paste}
 use Rattle.fields.specs.Tables.{joined}
 use Rattle.fields.proofs.Listed.{numbered, name_ends, letters_in_all, name_inside, name_copied, begins_there, ends_there, sized}
-use borrow.Author.Rules.{rules}
 use Rattle.fields.proofs.name.Goals as goal
 
 pub begin-from-requires : goal.begin-from-requires

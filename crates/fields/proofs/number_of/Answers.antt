@@ -1,6 +1,5 @@
 -- `fields::number_of`: field by field. Assumes nothing.
 use mathlib.Core.Path.{refl}
-use borrow.Author.Rules.{rules}
 use Rattle.fields.proofs.number_of.Goals as goal
 
 pub returns-in-Soc : goal.returns-in-Soc

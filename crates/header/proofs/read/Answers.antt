@@ -6,7 +6,6 @@ use Rattle.picture.specs.declared.opening.Opening.{Opening}
 use Rattle.picture.proofs.Laws.{opened}
 use Rattle.header.specs.Header.{walk_by, reading_by, reading_of}
 use Rattle.header.proofs.Whole.{opening_fine}
-use borrow.Author.Rules.{rules}
 use Rattle.header.proofs.read.Goals as goal
 
 pub walk_by-w-requires : goal.walk_by-w-requires

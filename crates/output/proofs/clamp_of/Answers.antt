@@ -6,7 +6,6 @@ use lib.Signed.{nat_abs-le}
 use mir.Syntax.{w64}
 use mir.Val.{to_z, of_z}
 use mir.Facts.{to_z-of_z}
-use borrow.Author.Rules.{rules}
 use Rattle.whole.proofs.Machine.{pos_is, cast_pos}
 use Rattle.output.proofs.Laws.{clamp_under, clamp_over}
 use Rattle.output.proofs.clamp_of.Goals.{Start}

@@ -1,5 +1,4 @@
 -- `output::distance_of` meets its contract. Assumes nothing.
-use borrow.Author.Rules.{rules}
 use Rattle.output.specs.Linear.{distance}
 use Rattle.output.proofs.Laws.{usable}
 use Rattle.output.proofs.distance_of.Goals as goal

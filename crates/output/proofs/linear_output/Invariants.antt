@@ -1,19 +1,12 @@
 -- `output::linear_output` meets its contract. The invariant: the first x values are given out, the others are as they were. Assumes nothing.
-use mathlib.Core.Path.{◌≡◌, sym, ap, ap₂, ◌∙◌}
+use mathlib.Core.Path.{◌≡◌}
 use mathlib.Core.List.{List}
-use Prim.Native.Nat.{ℕ, ◌-◌, ◌^◌, ◌≤◌}
-use native.Mathlib.Omega.{arith}
-use lib.IntN.{ℤ, pos, nat_abs}
+use Prim.Native.Nat.{ℕ, ◌-◌, ◌≤◌}
+use lib.IntN.{ℤ}
 use lib.ListN.{length}
-use mir.Syntax.{w64}
-use mir.Val.{to_z, of_z}
-use borrow.Author.Rules.{rules}
 use Rattle.whole.specs.Cells.{cell}
-use Rattle.whole.proofs.Machine.{read_small}
-use Rattle.whole.proofs.Passes.{mapped, mapped_none, mapped_length, mapped_all, map_at_from}
+use Rattle.whole.proofs.Passes.{mapped}
 use Rattle.output.specs.Linear.{output_of}
-use Rattle.output.specs.Constants.{output_by_scale}
-use Rattle.output.proofs.Laws.{output_by_scale_lem, usable, pass_goes}
 use Rattle.output.proofs.linear_output.Given as goal
 
 -- what each place becomes

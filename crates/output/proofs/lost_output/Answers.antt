@@ -2,14 +2,12 @@
 use mathlib.Core.Path.{◌≡◌, sym, ap, ap₂, ◌∙◌}
 use mathlib.Core.Bool.{cond}
 use mathlib.Core.List.{List}
-use Prim.Native.Nat.{ℕ, ◌-◌, ◌≤◌}
+use Prim.Native.Nat.{ℕ, ◌-◌}
 use native.Mathlib.Omega.{arith}
 use lib.Dec.{eqb}
 use lib.ListN.{length, get_or}
 use lib.Pow.{pow_pos, pow_mono}
-use borrow.Author.Rules.{rules}
-use Rattle.whole.proofs.Passes.{mapped, mapped_none, mapped_length, mapped_here, mapped_all}
-use Rattle.output.specs.Linear.{lost_distance}
+use Rattle.whole.proofs.Passes.{mapped_none, mapped_length, mapped_here, mapped_all}
 use Rattle.output.proofs.Laws.{pass_goes}
 use Rattle.output.proofs.lost_output.Goals.{At-loop-x}
 use Rattle.output.proofs.lost_output.Invariants.{losses}

@@ -1,7 +1,6 @@
 -- `output::near_of` meets its contract. Assumes nothing.
 use native.Mathlib.Omega.{arith}
 use lib.Pow.{pow_pos, pow_mono}
-use borrow.Author.Rules.{rules}
 use Rattle.output.proofs.near_of.Goals as goal
 
 pub overflow_sub-power : goal.overflow_sub-power

@@ -8,7 +8,6 @@ use mir.Syntax.{w64}
 use mir.Val.{to_z, of_z}
 use Rattle.whole.proofs.Machine.{read_small, cast_pos}
 use Rattle.output.specs.Constants.{by_scale, number_by_scale}
-use borrow.Author.Rules.{rules}
 use Rattle.output.proofs.output_of.Goals as goal
 
 -- a value is small, so it is what the machine reads

@@ -1,5 +1,4 @@
 -- `output::power` meets its contract. Assumes nothing.
-use borrow.Author.Rules.{rules}
 use Rattle.whole.proofs.Machine.{one_shl}
 use Rattle.output.proofs.power.Goals as goal
 

@@ -6,7 +6,6 @@ use lib.IntN.{pos, ◌+ℤ◌}
 use mir.Syntax.{w64}
 use mir.Val.{SFits, to_z}
 use mir.Facts.{to_z-of_z, to_z_pos}
-use borrow.Author.Rules.{rules}
 use Rattle.whole.proofs.Machine.{small_fits, shr_fits, size_add}
 use Rattle.output.proofs.sample_of.Goals.{Start}
 use Rattle.output.proofs.sample_of.Goals as goal

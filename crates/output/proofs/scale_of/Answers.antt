@@ -1,6 +1,5 @@
 -- `output::scale_of` meets its contract. Assumes nothing.
 use lib.Pow.{pow_pos}
-use borrow.Author.Rules.{rules}
 use Rattle.output.proofs.scale_of.Goals as goal
 
 pub overflow_sub-result : goal.overflow_sub-result

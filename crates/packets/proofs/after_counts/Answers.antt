@@ -2,7 +2,6 @@
 use mathlib.Core.Path.{◌≡◌, ◌∙◌}
 use mathlib.Core.List.{◌++◌}
 use native.Mathlib.Omega.{arith}
-use borrow.Author.Rules.{rules}
 use Rattle.rows.specs.Rows.{first}
 use Rattle.packets.specs.Packets.{count_checks, data_checks}
 use Rattle.packets.proofs.Stretches.{done_table, done_inside, done_content, cut_content, high_content, long_content}

@@ -1,6 +1,5 @@
 -- `packets::bound_flag` meets its contract. Assumes nothing.
 use borrow.Author.Tests.{lt-leb, le-leb}
-use borrow.Author.Rules.{rules}
 use Rattle.packets.specs.Steps.{first_bound}
 use Rattle.packets.proofs.bound_flag.Goals as goal
 

@@ -1,6 +1,5 @@
 -- `packets::bytes_by` meets its contract. Assumes nothing.
 use mathlib.Core.Path.{sym, ◌∙◌}
-use borrow.Author.Rules.{rules}
 use Rattle.pieces.specs.Pieces.{bytes_by}
 use Rattle.packets.specs.Steps.{part_bytes}
 use Rattle.packets.proofs.bytes_by.Goals as goal

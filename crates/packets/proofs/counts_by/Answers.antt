@@ -1,6 +1,5 @@
 -- `packets::counts_by` meets its contract. Assumes nothing.
 use mathlib.Core.Path.{subst}
-use borrow.Author.Rules.{rules}
 use Rattle.counts.specs.Lines.{Founded}
 use Rattle.packets.proofs.Laws.{counts_founded}
 use Rattle.packets.proofs.Stretches.{working_still}

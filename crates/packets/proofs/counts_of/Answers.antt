@@ -1,5 +1,4 @@
 -- `packets::counts_of` meets its contract. Assumes nothing.
-use borrow.Author.Rules.{rules}
 use Rattle.packets.proofs.Stretches.{counts_are}
 use Rattle.packets.proofs.counts_of.Goals as goal
 

@@ -1,7 +1,6 @@
 -- `packets::open` meets its contract. Assumes nothing.
 use mathlib.Core.Path.{sym, ◌∙◌}
 use native.Mathlib.Omega.{arith}
-use borrow.Author.Rules.{rules}
 use Rattle.layout.proofs.Slots.{slots_most}
 use Rattle.packets.proofs.Stretches.{head_table, head_inside}
 use Rattle.packets.proofs.Flags.{flags_table}

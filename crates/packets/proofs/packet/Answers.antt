@@ -1,5 +1,4 @@
 -- `packets::packet` meets its contract. Assumes nothing.
-use borrow.Author.Rules.{rules}
 use Rattle.packets.specs.Steps.{Within}
 use Rattle.packets.proofs.Stretches.{parts_own}
 use Rattle.packets.proofs.Pieces.{packet_decoded}

@@ -1,7 +1,6 @@
 -- `packets::parts_of` meets its contract. Assumes nothing.
 use Prim.Native.Nat.{◌+◌, ◌<◌, ◌^◌}
 use native.Mathlib.Omega.{arith}
-use borrow.Author.Rules.{rules}
 use Rattle.packets.proofs.Stretches.{signs_most, parts_are}
 use Rattle.packets.proofs.parts_of.Goals.{After-choose}
 use Rattle.packets.proofs.parts_of.Goals as goal

@@ -1,5 +1,4 @@
 -- `packets::values` meets its contract. Assumes nothing.
-use borrow.Author.Rules.{rules}
 use Rattle.packets.proofs.Stretches.{values_are, signs_are}
 use Rattle.packets.proofs.values.Goals as goal
 

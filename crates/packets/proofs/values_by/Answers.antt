@@ -1,5 +1,4 @@
 -- `packets::values_by` meets its contract. Assumes nothing.
-use borrow.Author.Rules.{rules}
 use Rattle.packets.proofs.Stretches.{signs_stand, signs_told}
 use Rattle.packets.proofs.values_by.Goals as goal
 

@@ -3,7 +3,6 @@ use Prim.Native.Nat.{ℕ}
 use mathlib.Core.List.{[], ◌∷◌, ◌++◌}
 use mathlib.Core.Path.{ap}
 use Rattle.pitchladle.specs.Exported.{cells_for, total_cells}
-use borrow.Author.Rules.{rules}
 use Rattle.pitchladle.proofs.cells_of.Goals as goal
 
 pub returns : goal.returns

@@ -5,7 +5,6 @@ use Rattle.rows.specs.declared.Verdict.{Verdict}
 use Rattle.layout.specs.Cells.{samples}
 use Rattle.layout.specs.declared.Shape.{Shape}
 use Rattle.pitchladle.specs.Exported.{needed_by}
-use borrow.Author.Rules.{rules}
 use Rattle.pitchladle.proofs.needed_by.Goals as goal
 
 pub samples_before-requires : goal.samples_before-requires

@@ -1,7 +1,6 @@
 -- `pitchladle::pitchladle_coarsest`: what `explain` tells, as cells. Assumes nothing.
 use mathlib.Core.Path.{ap, ◌∙◌}
 use Rattle.pitchladle.specs.Exported.{coarsest_cells}
-use borrow.Author.Rules.{rules}
 use Rattle.pitchladle.proofs.pitchladle_coarsest.Goals as goal
 
 pub returns : goal.returns

@@ -3,7 +3,6 @@ use mathlib.Core.Path.{ap, ◌∙◌}
 use Rattle.header.specs.declared.header.Reading.{Reading}
 use Rattle.shapes.proofs.Accepted.{built}
 use Rattle.pitchladle.specs.Exported.{needed_by, needed}
-use borrow.Author.Rules.{rules}
 use Rattle.pitchladle.proofs.pitchladle_needs.Goals as goal
 
 pub needed_by-requires : goal.needed_by-requires

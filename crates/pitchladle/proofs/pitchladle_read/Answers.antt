@@ -1,7 +1,6 @@
 -- `pitchladle::pitchladle_read`: the reader's record as cells, and its buffers. Assumes nothing.
 use mathlib.Core.Path.{ap, ◌∙◌}
 use Rattle.pitchladle.specs.Exported.{cells_of}
-use borrow.Author.Rules.{rules}
 use Rattle.pitchladle.proofs.pitchladle_read.Goals as goal
 
 pub returns : goal.returns

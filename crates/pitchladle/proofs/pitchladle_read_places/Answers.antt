@@ -1,7 +1,6 @@
 -- `pitchladle::pitchladle_read_places`: the reader's record as cells, its buffers and the distances. Assumes nothing.
 use mathlib.Core.Path.{ap, ◌∙◌}
 use Rattle.pitchladle.specs.Exported.{cells_of}
-use borrow.Author.Rules.{rules}
 use Rattle.pitchladle.proofs.pitchladle_read_places.Goals as goal
 
 pub returns : goal.returns

@@ -4,7 +4,6 @@ use mathlib.Core.Path.{refl, sym, ap}
 use native.Mathlib.Nat.{div-one}
 use lib.Dec.{eqb}
 use Rattle.pitchladle.proofs.Reasons.{explained}
-use borrow.Author.Rules.{rules}
 use Rattle.pitchladle.proofs.pitchladle_why.Goals as goal
 
 pub returns : goal.returns

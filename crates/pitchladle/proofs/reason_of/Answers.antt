@@ -1,7 +1,6 @@
 -- `pitchladle::reason_of`: by the verdict. Assumes nothing.
 use mathlib.Core.Path.{refl}
 use Rattle.pitchladle.proofs.Reasons.{no_reason, reason_told}
-use borrow.Author.Rules.{rules}
 use Rattle.pitchladle.proofs.reason_of.Goals as goal
 
 pub returns-in-Fine : goal.returns-in-Fine

@@ -4,7 +4,6 @@ use native.Mathlib.Omega.{arith}
 use Rattle.whole.proofs.Machine.{back64}
 use Rattle.packets.proofs.Lines.{lies_read, stride_some}
 use Rattle.places.proofs.Laws.{line_written, line_absent}
-use borrow.Author.Rules.{rules}
 use Rattle.places.proofs.fill_candidate.Goals as goal
 
 pub number_in-requires : goal.number_in-requires

@@ -1,13 +1,6 @@
 -- `places::fill_line` meets its contract. Invariant: x cells of the line are filled. Assumes nothing.
-use Prim.Native.Nat.{◌+◌, ◌-◌, ◌*◌, ◌≤◌, ◌<◌}
-use native.Mathlib.Omega.{arith}
-use lib.ListN.{length}
-use mir.Val.{to_z}
-use mir.ValLaws.{to_z-of_z}
-use mir.Syntax.{w64}
+use Prim.Native.Nat.{◌-◌, ◌≤◌}
 use Rattle.whole.specs.Cells.{OntoLine}
-use Rattle.whole.proofs.Filling.{onto_none}
-use Rattle.places.proofs.Laws.{next_cell, line_filled}
 use Rattle.places.proofs.fill_line.Given as goal
 
 abbrev pub invariant-loop-x : goal.invariant-loop-x

@@ -1,10 +1,9 @@
 -- `places::fill_precinct` meets its contract. Invariant: so many slots are filled. Assumes nothing.
-use Prim.Native.Nat.{◌-◌, ◌≤◌, ◌<◌}
+use Prim.Native.Nat.{◌<◌}
 use native.Mathlib.Omega.{arith}
 use Rattle.layout.specs.Slots.{slots}
-use Rattle.places.specs.Writes.{first, slot_writes, Written}
+use Rattle.places.specs.Writes.{slot_writes}
 use Rattle.places.proofs.Laws.{none_written, all_written, next_slot}
-use borrow.Author.Rules.{rules}
 use Rattle.places.proofs.fill_precinct.Goals.{In-loop-slot}
 use Rattle.places.proofs.fill_precinct.Goals as goal
 

@@ -1,10 +1,6 @@
 -- `places::fill_precinct` meets its contract. Invariant: so many slots are filled. Assumes nothing.
-use Prim.Native.Nat.{◌-◌, ◌≤◌, ◌<◌}
-use native.Mathlib.Omega.{arith}
-use Rattle.layout.specs.Slots.{slots}
+use Prim.Native.Nat.{◌-◌, ◌≤◌}
 use Rattle.places.specs.Writes.{first, slot_writes, Written}
-use Rattle.places.proofs.Laws.{none_written, all_written, next_slot}
-use borrow.Author.Rules.{rules}
 use Rattle.places.proofs.fill_precinct.Given as goal
 
 abbrev pub invariant-loop-slot : goal.invariant-loop-slot

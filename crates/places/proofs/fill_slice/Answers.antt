@@ -1,5 +1,5 @@
 -- `places::fill_slice` meets its contract. Invariant: n precincts are filled, and the walk stands at the next. Assumes nothing.
-use Prim.Native.Nat.{◌-◌, ◌≤◌, ◌<◌}
+use Prim.Native.Nat.{◌<◌}
 use mathlib.Core.Path.{◌≡◌, sym, ap, ◌∙◌}
 use native.Mathlib.Omega.{arith}
 use Rattle.layout.specs.Precincts.{Np}
@@ -10,9 +10,8 @@ use Rattle.slices.specs.Slice.{row_of, column_in}
 use Rattle.slices.specs.Walk.{precinct_place}
 use Rattle.slices.proofs.SliceLaws.{row_inside, column_inside}
 use Rattle.slices.proofs.WalkPlaces.{walk_left, walk_precinct, place_first, place_inside}
-use Rattle.places.specs.Writes.{first, precincts_of, Written}
+use Rattle.places.specs.Writes.{precincts_of}
 use Rattle.places.proofs.Laws.{none_written, all_written, next_precinct}
-use borrow.Author.Rules.{rules}
 use Rattle.places.proofs.fill_slice.Goals.{After-precinct_in-p, In-loop-n}
 use Rattle.places.proofs.fill_slice.Goals as goal
 

@@ -1,10 +1,9 @@
 -- `places::fill_slot` meets its contract. Invariant: j candidates are filled. Assumes nothing.
-use Prim.Native.Nat.{◌-◌, ◌≤◌, ◌<◌}
+use Prim.Native.Nat.{◌<◌}
 use native.Mathlib.Omega.{arith}
 use Rattle.layout.specs.Slots.{candidates}
-use Rattle.places.specs.Writes.{first, line_writes, Written}
+use Rattle.places.specs.Writes.{line_writes}
 use Rattle.places.proofs.Laws.{none_written, all_written, next_candidate}
-use borrow.Author.Rules.{rules}
 use Rattle.places.proofs.fill_slot.Goals.{In-loop-j}
 use Rattle.places.proofs.fill_slot.Goals as goal
 

@@ -8,7 +8,6 @@ use mir.Syntax.{w64}
 use Rattle.quantiser.specs.Distance.{band_number}
 use Rattle.places.specs.Writes.{number_in}
 use Rattle.places.proofs.Laws.{number_small}
-use borrow.Author.Rules.{rules}
 use Rattle.places.proofs.number_in.Goals.{After-band_number}
 use Rattle.places.proofs.number_in.Goals as goal
 

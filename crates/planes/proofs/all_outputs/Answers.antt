@@ -1,12 +1,8 @@
 -- `planes::all_outputs` meets its contract. The invariant: the output of the first i components is written. Assumes nothing.
 use mathlib.Core.Path.{sym, ◌∙◌}
-use Prim.Native.Nat.{ℕ, ◌-◌, ◌≤◌}
 use native.Mathlib.Omega.{arith}
-use lib.ListN.{get_or}
-use Rattle.planes.specs.Places.{values_in}
-use Rattle.planes.specs.Numbers.{outputs_of}
 use Rattle.planes.proofs.Stretches.{ready_one, number_one}
-use Rattle.planes.proofs.Planes.{Written, written_none, written_more, written_all}
+use Rattle.planes.proofs.Planes.{written_none, written_more, written_all}
 use Rattle.planes.proofs.all_outputs.Goals as goal
 
 pub loop-i-init : goal.loop-i-init

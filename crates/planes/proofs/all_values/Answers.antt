@@ -1,8 +1,6 @@
 -- `planes::all_values` meets its contract. The invariant: the first i components are transformed, and no other cell has changed. Assumes nothing.
-use Prim.Native.Nat.{◌-◌, ◌≤◌}
 use native.Mathlib.Omega.{arith}
-use Rattle.planes.specs.Numbers.{filtered_of}
-use Rattle.planes.proofs.Transforms.{HoldingFirst, first_none, first_ready, first_numbers, first_turn, first_all}
+use Rattle.planes.proofs.Transforms.{first_none, first_ready, first_numbers, first_turn, first_all}
 use Rattle.planes.proofs.all_values.Goals as goal
 
 pub loop-i-init : goal.loop-i-init
@@ -21,11 +19,10 @@ pub loop-i-smaller : goal.loop-i-smaller
 loop-i-smaller c = omega arith
 
 pub loop-i-preserved : goal.loop-i-preserved
-loop-i-preserved c =
-    (
-      omega (arith, c.loop-i-test.true),
-      first_turn c.args.kind c.requires.0 c.loop-i.invariant.1 c.loop-i-test.true c.component_values.ensures,
-    )
+loop-i-preserved c = (
+  omega (arith, c.loop-i-test.true),
+  first_turn c.args.kind c.requires.0 c.loop-i.invariant.1 c.loop-i-test.true c.component_values.ensures,
+)
 
 pub shape_of-work : goal.shape_of-work
 shape_of-work c = c.loop-i.invariant.1.same

@@ -1,8 +1,7 @@
 -- `planes::all_values` meets its contract. The invariant: the first i components are transformed, and no other cell has changed. Assumes nothing.
 use Prim.Native.Nat.{◌-◌, ◌≤◌}
-use native.Mathlib.Omega.{arith}
 use Rattle.planes.specs.Numbers.{filtered_of}
-use Rattle.planes.proofs.Transforms.{HoldingFirst, first_none, first_ready, first_numbers, first_turn, first_all}
+use Rattle.planes.proofs.Transforms.{HoldingFirst}
 use Rattle.planes.proofs.all_values.Given as goal
 
 abbrev pub invariant-loop-i : goal.invariant-loop-i

@@ -1,5 +1,4 @@
 -- `planes::both` meets its contract: Annex F is given what Annex E leaves. Assumes nothing.
-use borrow.Author.Rules.{rules}
 use Rattle.planes.proofs.Laws.{filtered_small, held_ready, held_numbers, held_coloured}
 use Rattle.planes.proofs.both.Goals as goal
 

@@ -1,15 +1,11 @@
 -- `planes::cell_marks` meets its contract. The invariant: the first x marks are written, the others are as they were. Assumes nothing.
-use mathlib.Core.Path.{◌≡◌, sym, ap, ◌∙◌}
+use mathlib.Core.Path.{◌≡◌}
 use mathlib.Core.List.{List}
 use Prim.Native.Nat.{ℕ, ◌-◌, ◌≤◌}
-use native.Mathlib.Omega.{arith}
-use lib.IntN.{ℤ, pos}
+use lib.IntN.{ℤ}
 use lib.ListN.{length}
-use borrow.Author.Rules.{rules}
 use Rattle.whole.specs.Cells.{cell}
-use Rattle.whole.proofs.Machine.{back64}
-use Rattle.whole.proofs.Passes.{mapped, mapped_none, mapped_length, mapped_all, map_at_from}
-use Rattle.output.proofs.Laws.{pass_goes}
+use Rattle.whole.proofs.Passes.{mapped}
 use Rattle.planes.specs.Marks.{cell_mark}
 use Rattle.planes.proofs.cell_marks.Given as goal
 

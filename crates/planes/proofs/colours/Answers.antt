@@ -1,7 +1,6 @@
 -- `planes::colours` meets its contract, kind by kind. Assumes nothing.
 use native.Mathlib.Omega.{arith}
 use Rattle.planes.proofs.Pixels.{none_held, rct_taken, rct_numbers, rct_held, rct_numbered}
-use borrow.Author.Rules.{rules}
 use Rattle.planes.proofs.colours.Goals as goal
 
 pub returns-then-cpih-ne1 : goal.returns-then-cpih-ne1
@@ -19,9 +18,12 @@ inverse_rct-requires c =
 
 pub inverse_numbers-requires : goal.inverse_numbers-requires
 inverse_numbers-requires c =
-    let one = c.if-cpih-ne1.false in record { stretches = rct_taken c.requires.0 (c.requires.2.three one) (c.requires.2.full one) c.samples_before-second.ensures.0
-          c.samples_before-third.ensures.0 c.area_of-n.ensures.0; holding_numbers = rct_numbers c.requires.0 (c.requires.2.three one) (c.requires.2.full one) c.samples_before-second.ensures.0
-          c.samples_before-third.ensures.0 c.area_of-n.ensures.0 (c.requires.1 (λ e. c.if-kind-eq0.false e)) }
+    let one = c.if-cpih-ne1.false in record {
+      stretches = rct_taken c.requires.0 (c.requires.2.three one) (c.requires.2.full one) c.samples_before-second.ensures.0
+          c.samples_before-third.ensures.0 c.area_of-n.ensures.0;
+      holding_numbers = rct_numbers c.requires.0 (c.requires.2.three one) (c.requires.2.full one) c.samples_before-second.ensures.0
+          c.samples_before-third.ensures.0 c.area_of-n.ensures.0 (c.requires.1 (λ e. c.if-kind-eq0.false e));
+    }
 
 pub returns-then-kind-eq0 : goal.returns-then-kind-eq0
 returns-then-kind-eq0 c =

@@ -4,7 +4,6 @@ use native.Mathlib.Omega.{arith}
 use Rattle.layout.specs.Cells.{samples}
 use Rattle.layout.proofs.Cells.{starts_up}
 use Rattle.planes.proofs.LostPlanes.{lost_given}
-use borrow.Author.Rules.{rules}
 use Rattle.planes.proofs.component_lost.Goals.{After-area_of}
 use Rattle.planes.proofs.component_lost.Goals as goal
 

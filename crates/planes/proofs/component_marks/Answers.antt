@@ -4,7 +4,6 @@ use Rattle.layout.proofs.Cells.{starts_up}
 use Rattle.planes.specs.Marks.{cell_mark}
 use Rattle.planes.proofs.Stretches.{stretch_fits}
 use Rattle.planes.proofs.Planes.{plane_given}
-use borrow.Author.Rules.{rules}
 use Rattle.planes.proofs.component_marks.Goals as goal
 
 pub slice_bounds-cell_marks-end : goal.slice_bounds-cell_marks-end

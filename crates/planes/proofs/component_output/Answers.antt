@@ -4,7 +4,6 @@ use Rattle.output.specs.Linear.{output_of}
 use Rattle.layout.proofs.Cells.{starts_up}
 use Rattle.planes.proofs.Stretches.{stretch_fits}
 use Rattle.planes.proofs.Planes.{samples_taken, numbers_taken, plane_given}
-use borrow.Author.Rules.{rules}
 use Rattle.planes.proofs.component_output.Goals as goal
 
 pub slice_bounds-linear_output-end : goal.slice_bounds-linear_output-end
@@ -22,11 +21,10 @@ slice_bounds-linear_output-end-2 c =
     )
 
 pub linear_output-requires : goal.linear_output-requires
-linear_output-requires c =
-    (
-      samples_taken c.requires.0 c.args.out.now c.requires.3 c.samples_before-at.ensures.0 c.area_of-n.ensures.0 c.requires.2,
-      λ numbers. numbers_taken c.requires.0 c.args.out.now c.requires.3 c.samples_before-at.ensures.0 c.area_of-n.ensures.0 (c.requires.1 numbers),
-    )
+linear_output-requires c = (
+  samples_taken c.requires.0 c.args.out.now c.requires.3 c.samples_before-at.ensures.0 c.area_of-n.ensures.0 c.requires.2,
+  λ numbers. numbers_taken c.requires.0 c.args.out.now c.requires.3 c.samples_before-at.ensures.0 c.area_of-n.ensures.0 (c.requires.1 numbers),
+)
 
 pub returns : goal.returns
 returns c =

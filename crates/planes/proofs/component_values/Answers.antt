@@ -2,7 +2,6 @@
 use native.Mathlib.Omega.{arith}
 use Rattle.planes.proofs.Stretches.{stretch_fits}
 use Rattle.planes.proofs.Transforms.{part_taken, part_numbers, part_given, part_numbered}
-use borrow.Author.Rules.{rules}
 use Rattle.planes.proofs.component_values.Goals as goal
 
 pub slice_bounds-inverse-end : goal.slice_bounds-inverse-end

@@ -1,10 +1,8 @@
 -- `planes::lost_distances` meets its contract. The invariant: the first i components are what their marks make of them, the others are as they were. Assumes nothing.
 use mathlib.Core.Path.{sym, ◌∙◌}
-use Prim.Native.Nat.{ℕ, ◌-◌, ◌≤◌}
 use native.Mathlib.Omega.{arith}
-use lib.ListN.{get_or}
 use Rattle.planes.proofs.Planes.{written_all}
-use Rattle.planes.proofs.LostPlanes.{LostFirst, lost_none, lost_more}
+use Rattle.planes.proofs.LostPlanes.{lost_none, lost_more}
 use Rattle.planes.proofs.lost_distances.Goals as goal
 
 pub loop-i-init : goal.loop-i-init

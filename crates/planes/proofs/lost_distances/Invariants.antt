@@ -1,10 +1,7 @@
 -- `planes::lost_distances` meets its contract. The invariant: the first i components are what their marks make of them, the others are as they were. Assumes nothing.
-use mathlib.Core.Path.{sym, ◌∙◌}
 use Prim.Native.Nat.{ℕ, ◌-◌, ◌≤◌}
-use native.Mathlib.Omega.{arith}
 use lib.ListN.{get_or}
-use Rattle.planes.proofs.Planes.{written_all}
-use Rattle.planes.proofs.LostPlanes.{LostFirst, lost_none, lost_more}
+use Rattle.planes.proofs.LostPlanes.{LostFirst}
 use Rattle.planes.proofs.lost_distances.Given as goal
 
 abbrev pub invariant-loop-i : goal.invariant-loop-i

@@ -1,10 +1,7 @@
 -- `planes::marks` meets its contract. The invariant: the marks of the first i components are written. Assumes nothing.
-use mathlib.Core.Path.{sym, ◌∙◌}
 use Prim.Native.Nat.{◌-◌, ◌≤◌}
-use native.Mathlib.Omega.{arith}
 use Rattle.planes.specs.Marks.{marks_in}
-use Rattle.planes.proofs.Stretches.{ready_one}
-use Rattle.planes.proofs.Planes.{Written, written_none, written_more, written_all}
+use Rattle.planes.proofs.Planes.{Written}
 use Rattle.planes.proofs.marks.Given as goal
 
 abbrev pub invariant-loop-i : goal.invariant-loop-i

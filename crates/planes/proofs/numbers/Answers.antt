@@ -1,5 +1,4 @@
 -- `planes::numbers` is the way of kind 1, numbers. Assumes nothing.
-use borrow.Author.Rules.{rules}
 use Rattle.planes.specs.Numbers.{filtered_of, coloured_of}
 use Rattle.planes.proofs.numbers.Goals as goal
 

@@ -1,5 +1,4 @@
 -- `planes::place_distances` is Annex G of kind 1, numbers. Assumes nothing.
-use borrow.Author.Rules.{rules}
 use Rattle.output.specs.Linear.{output_of}
 use Rattle.planes.specs.Numbers.{measured}
 use Rattle.planes.proofs.place_distances.Goals as goal

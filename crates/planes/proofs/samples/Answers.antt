@@ -1,6 +1,5 @@
 -- `planes::samples` is Annex G of kind 0, samples. Assumes nothing.
 use mathlib.Core.Path.{refl}
-use borrow.Author.Rules.{rules}
 use Rattle.output.specs.Linear.{output_of}
 use Rattle.planes.specs.Values.{sampled}
 use Rattle.planes.proofs.samples.Goals as goal

@@ -1,6 +1,5 @@
 -- `planes::values` is the way of kind 0, samples. Assumes nothing.
 use mathlib.Core.Path.{refl}
-use borrow.Author.Rules.{rules}
 use Rattle.planes.specs.Numbers.{filtered_of, coloured_of}
 use Rattle.planes.proofs.values.Goals as goal
 

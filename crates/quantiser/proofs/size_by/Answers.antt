@@ -1,5 +1,4 @@
 -- `quantiser::size_by` meets its contract. Assumes nothing.
-use borrow.Author.Rules.{rules}
 use Rattle.quantiser.specs.Inverse.{inverse}
 use Rattle.quantiser.proofs.size_by.Goals as goal
 

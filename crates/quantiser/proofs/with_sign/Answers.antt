@@ -1,7 +1,6 @@
 -- `quantiser::with_sign` meets its contract. Assumes nothing.
 use mathlib.Core.Path.{◌≡◌, sym, ◌∙◌}
 use Prim.Native.Nat.{ℕ, ◌<◌, ◌^◌}
-use borrow.Author.Rules.{rules}
 use lib.IntN.{pos, neg_ℤ, nat_abs}
 use mir.Syntax.{w64}
 use mir.Val.{to_z, of_z}

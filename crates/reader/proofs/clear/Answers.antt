@@ -1,14 +1,11 @@
 -- `reader::clear` meets its contract. The invariant: the first i cells are 0. Assumes nothing.
 use mathlib.Core.Path.{◌≡◌, refl, sym, ap, ◌∙◌}
-use mathlib.Core.List.{List}
-use Prim.Native.Nat.{ℕ, suc, ◌+◌, ◌-◌, ◌≤◌}
+use Prim.Native.Nat.{ℕ, suc, ◌+◌}
 use native.Mathlib.Numerals.{add-one}
 use native.Mathlib.Omega.{arith}
-use lib.IntN.{ℤ, pos}
-use lib.ListN.{length, take, replicate, length-set, replicate-append-replicate}
+use lib.IntN.{pos}
+use lib.ListN.{length, replicate, length-set, replicate-append-replicate}
 use lib.Seq.{take_all, take-suc-set}
-use borrow.Author.Rules.{rules}
-use Rattle.reader.proofs.clear.Invariants.{Cleared}
 use Rattle.reader.proofs.clear.Goals as goal
 
 pub loop-i-init : goal.loop-i-init

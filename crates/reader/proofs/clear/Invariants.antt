@@ -1,13 +1,9 @@
 -- `reader::clear` meets its contract. The invariant: the first i cells are 0. Assumes nothing.
-use mathlib.Core.Path.{◌≡◌, refl, sym, ap, ◌∙◌}
+use mathlib.Core.Path.{◌≡◌}
 use mathlib.Core.List.{List}
-use Prim.Native.Nat.{ℕ, suc, ◌+◌, ◌-◌, ◌≤◌}
-use native.Mathlib.Numerals.{add-one}
-use native.Mathlib.Omega.{arith}
+use Prim.Native.Nat.{ℕ, ◌-◌, ◌≤◌}
 use lib.IntN.{ℤ, pos}
-use lib.ListN.{length, take, replicate, length-set, replicate-append-replicate}
-use lib.Seq.{take_all, take-suc-set}
-use borrow.Author.Rules.{rules}
+use lib.ListN.{length, take, replicate}
 use Rattle.reader.proofs.clear.Given as goal
 
 pub record Cleared (long i : ℕ) (cells : List ℤ) : Type 0 where

@@ -6,7 +6,6 @@ use lib.ListN.{length, length-replicate}
 use Rattle.pieces.specs.Pieces.{plus, all}
 use Rattle.pieces.specs.declared.Bytes.{Bytes}
 use Rattle.reader.proofs.Decoded.{bytes_few, bytes_are, shown_of, marked_of, placed_of, decodes}
-use borrow.Author.Rules.{rules}
 use Rattle.reader.proofs.decode.Goals as goal
 
 pub and-requires : goal.and-requires

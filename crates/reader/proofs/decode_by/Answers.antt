@@ -4,7 +4,6 @@ use mathlib.Core.Bool.{cond}
 use Prim.Native.Nat.{ℕ, ◌*◌}
 use lib.Seq.{length-take-le}
 use Rattle.reader.proofs.Leaving.{roomy, leaves, leaves_none}
-use borrow.Author.Rules.{rules}
 use Rattle.reader.proofs.decode_by.Goals as goal
 
 pub slice_bounds-decode-end : goal.slice_bounds-decode-end

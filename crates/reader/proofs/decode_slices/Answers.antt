@@ -3,7 +3,6 @@ use mathlib.Core.Path.{ap, ◌∙◌}
 use lib.IntN.{pos}
 use lib.ListN.{length, length-replicate}
 use Rattle.reader.proofs.Decoded.{lent, sliced}
-use borrow.Author.Rules.{rules}
 use Rattle.reader.proofs.decode_slices.Goals as goal
 
 pub stream-requires : goal.stream-requires

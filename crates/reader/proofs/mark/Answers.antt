@@ -1,8 +1,7 @@
 -- `reader::mark` meets its contract. Assumes nothing.
-use mathlib.Core.Path.{◌∙◌, sym}
+use mathlib.Core.Path.{◌∙◌}
 use Rattle.reader.proofs.Openings.{colours}
 use Rattle.reader.proofs.Marking.{numbers_ready, numbers_hold, marks_ready, marks_made}
-use borrow.Author.Rules.{rules}
 use Rattle.reader.proofs.mark.Goals as goal
 
 pub lost_numbers-requires : goal.lost_numbers-requires

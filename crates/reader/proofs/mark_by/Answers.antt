@@ -1,6 +1,5 @@
 -- `reader::mark_by` meets its contract. Assumes nothing.
 use mathlib.Core.Path.{refl}
-use borrow.Author.Rules.{rules}
 use Rattle.reader.proofs.mark_by.Goals as goal
 
 pub returns-in-Fine : goal.returns-in-Fine

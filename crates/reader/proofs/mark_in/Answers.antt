@@ -3,7 +3,6 @@ use mathlib.Core.Path.{◌∙◌}
 use mathlib.Core.Bool.{cond}
 use Rattle.reader.specs.Settings.{N}
 use Rattle.reader.proofs.Marking.{marked_not}
-use borrow.Author.Rules.{rules}
 use Rattle.reader.proofs.mark_in.Goals as goal
 
 pub mark-requires : goal.mark-requires

@@ -1,6 +1,5 @@
 -- `reader::place` meets its contract. Assumes nothing.
 use mathlib.Core.Path.{◌∙◌}
-use borrow.Author.Rules.{rules}
 use Rattle.planes.proofs.Laws.{numbers_held}
 use Rattle.reader.proofs.Openings.{depths, colours}
 use Rattle.reader.proofs.Shown.{numbered_ready}

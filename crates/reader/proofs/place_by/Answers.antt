@@ -1,6 +1,5 @@
 -- `reader::place_by` meets its contract. Assumes nothing.
 use mathlib.Core.Path.{refl}
-use borrow.Author.Rules.{rules}
 use Rattle.reader.proofs.place_by.Goals as goal
 
 pub place_in-requires : goal.place_in-requires

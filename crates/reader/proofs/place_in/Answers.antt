@@ -1,7 +1,6 @@
 -- `reader::place_in` meets its contract. Assumes nothing.
 use Rattle.reader.specs.Settings.{N}
 use Rattle.reader.proofs.Placing.{placed_not}
-use borrow.Author.Rules.{rules}
 use Rattle.reader.proofs.place_in.Goals as goal
 
 pub place_lost-requires : goal.place_lost-requires

@@ -7,7 +7,6 @@ use Rattle.shapes.specs.Shapes.{shape_of}
 use Rattle.planes.proofs.Planes.{planes_length}
 use Rattle.reader.specs.Modes.{lost_marks}
 use Rattle.reader.specs.Places.{place_distance}
-use borrow.Author.Rules.{rules}
 use Rattle.reader.proofs.Openings.{depths}
 use Rattle.reader.proofs.Leaving.{marks_length}
 use Rattle.reader.proofs.Placing.{placeable, placed_whole, placed_lost}

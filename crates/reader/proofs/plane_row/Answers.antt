@@ -3,7 +3,6 @@ use mathlib.Core.Path.{refl, ◌∙◌}
 use mathlib.Core.List.{[], ◌∷◌}
 use Rattle.rows.specs.Rows.{check, ample, first}
 use Rattle.rows.specs.declared.Row.TheVariants.{Lent}
-use borrow.Author.Rules.{rules}
 use Rattle.reader.proofs.plane_row.Goals as goal
 
 pub returns-then-asked : goal.returns-then-asked

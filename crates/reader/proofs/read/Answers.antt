@@ -1,6 +1,5 @@
 -- `reader::read` meets its contract. Assumes nothing.
 use Rattle.reader.proofs.Leaving.{reads_plain}
-use borrow.Author.Rules.{rules}
 use Rattle.reader.proofs.read.Goals as goal
 
 pub returns : goal.returns

@@ -5,7 +5,6 @@ use Rattle.layout.specs.Cells.{samples}
 use Rattle.reader.specs.Steps.{Opened}
 use Rattle.reader.proofs.Openings.{opened}
 use Rattle.reader.proofs.Leaving.{reads, reads_none}
-use borrow.Author.Rules.{rules}
 use Rattle.reader.proofs.read_by.Goals as goal
 
 pub samples_before-n-requires : goal.samples_before-n-requires
@@ -16,13 +15,12 @@ pub room_row-w-requires : goal.room_row-w-requires
 room_row-w-requires c = (c.samples_before-n.ensures.0 ∙ (λ i. samples (c.shape_of-s.ensures i) (c.shape_of-s.ensures i).nc), c.samples_before-n.ensures.1)
 
 pub decode_by-requires : goal.decode_by-requires
-decode_by-requires c =
-    (
-      subst (Opened c.args.stream.now) (sym c.requires.1) (opened c.args.stream.now (sym c.requires.0 ∙ c.in-Fine.is)),
-      c.samples_before-n.ensures.0 ∙ (λ i. samples (c.shape_of-s.ensures i) (c.shape_of-s.ensures i).nc),
-      c.samples_before-n.ensures.1,
-      c.room_row-w.ensures,
-    )
+decode_by-requires c = (
+  subst (Opened c.args.stream.now) (sym c.requires.1) (opened c.args.stream.now (sym c.requires.0 ∙ c.in-Fine.is)),
+  c.samples_before-n.ensures.0 ∙ (λ i. samples (c.shape_of-s.ensures i) (c.shape_of-s.ensures i).nc),
+  c.samples_before-n.ensures.1,
+  c.room_row-w.ensures,
+)
 
 pub returns-in-Fine : goal.returns-in-Fine
 returns-in-Fine c =

@@ -1,6 +1,5 @@
 -- `reader::read_damaged` meets its contract. Assumes nothing.
 use Rattle.reader.proofs.Leaving.{reads_damaged}
-use borrow.Author.Rules.{rules}
 use Rattle.reader.proofs.read_damaged.Goals as goal
 
 pub returns : goal.returns

@@ -1,5 +1,4 @@
 -- `reader::read_in` meets its contract. Assumes nothing.
-use borrow.Author.Rules.{rules}
 use Rattle.reader.proofs.read_in.Goals as goal
 
 pub read_by-requires : goal.read_by-requires

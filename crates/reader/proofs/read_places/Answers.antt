@@ -1,6 +1,5 @@
 -- `reader::read_places` meets its contract. Assumes nothing.
 use Rattle.reader.proofs.Leaving.{reads_places}
-use borrow.Author.Rules.{rules}
 use Rattle.reader.proofs.read_places.Goals as goal
 
 pub returns : goal.returns

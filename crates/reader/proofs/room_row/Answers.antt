@@ -9,7 +9,6 @@ use Rattle.rows.specs.declared.Field.TheVariants.{Samples, Work, Marks, Distance
 use Rattle.rows.proofs.Tables.{joined}
 use Rattle.reader.specs.Settings.{N, room_checks}
 use Rattle.reader.specs.Modes.{room_checks_in}
-use borrow.Author.Rules.{rules}
 use Rattle.reader.proofs.room_row.Goals as goal
 
 pub returns : goal.returns

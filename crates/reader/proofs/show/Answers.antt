@@ -1,6 +1,5 @@
 -- `reader::show` meets its contract. Assumes nothing.
 use native.Mathlib.Omega.{arith}
-use borrow.Author.Rules.{rules}
 use Rattle.reader.proofs.Openings.{fq_few, depths, colours}
 use Rattle.reader.proofs.Shown.{values_ready, shows}
 use Rattle.reader.proofs.show.Goals as goal

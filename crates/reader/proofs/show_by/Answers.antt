@@ -1,5 +1,4 @@
 -- `reader::show_by` meets its contract. Assumes nothing.
-use borrow.Author.Rules.{rules}
 use Rattle.reader.proofs.Shown.{shows_none}
 use Rattle.reader.proofs.show_by.Goals as goal
 

@@ -1,6 +1,5 @@
 -- `reasons::explain` meets its contract. Assumes nothing.
 use Rattle.reasons.proofs.Telling.{judged_told, explains}
-use borrow.Author.Rules.{rules}
 use Rattle.reasons.proofs.explain.Goals as goal
 
 pub why_by-requires : goal.why_by-requires

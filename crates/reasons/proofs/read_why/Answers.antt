@@ -5,7 +5,6 @@ use Rattle.whole.specs.Cells.{listed}
 use Rattle.rows.specs.declared.Verdict.TheVariants.{Fine}
 use Rattle.reasons.specs.Steps.{coarse_of}
 use Rattle.reasons.proofs.Telling.{searched}
-use borrow.Author.Rules.{rules}
 use Rattle.reasons.proofs.read_why.Goals as goal
 
 pub coarsest_of-c0-requires : goal.coarsest_of-c0-requires

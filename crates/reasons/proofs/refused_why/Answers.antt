@@ -1,6 +1,5 @@
 -- `reasons::refused_why` meets its contract. Assumes nothing.
 use lib.ListN.{replicate}
-use borrow.Author.Rules.{rules}
 use Rattle.reasons.proofs.refused_why.Goals as goal
 
 pub returns : goal.returns

@@ -2,7 +2,6 @@
 use mathlib.Core.Path.{sym, ◌∙◌}
 use Rattle.reasons.specs.Why.{why_by}
 use Rattle.reasons.proofs.Telling.{refused_is}
-use borrow.Author.Rules.{rules}
 use Rattle.reasons.proofs.why_by.Goals as goal
 
 pub read_why-requires : goal.read_why-requires

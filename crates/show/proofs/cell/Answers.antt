@@ -2,7 +2,6 @@
 use borrow.Enum.Refused.{opened}
 use native.Mathlib.Omega.{arith}
 use Rattle.show.proofs.Puts.{words_cells}
-use borrow.Author.Rules.{rules}
 use Rattle.show.proofs.cell.Goals as goal
 
 pub offset_bounds-words-at : goal.offset_bounds-words-at

@@ -1,7 +1,6 @@
 -- `show::counted_text`: the page and where its bytes went, at the buffer's beginning. Assumes nothing.
 use Rattle.show.specs.Text.{counted_text}
 use Rattle.show.proofs.Puts.{put_both, put_leads}
-use borrow.Author.Rules.{rules}
 use Rattle.show.proofs.counted_text.Goals as goal
 
 pub returns : goal.returns

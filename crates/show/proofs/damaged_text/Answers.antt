@@ -1,6 +1,5 @@
 -- `show::damaged_text`: the page and the marks, at the buffer's beginning. Assumes nothing.
 use Rattle.show.proofs.Puts.{put_leads}
-use borrow.Author.Rules.{rules}
 use Rattle.show.proofs.damaged_text.Goals as goal
 
 pub returns : goal.returns

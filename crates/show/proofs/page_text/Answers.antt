@@ -1,6 +1,5 @@
 -- `show::page_text`: the page, at the buffer's beginning. Assumes nothing.
 use Rattle.show.proofs.Puts.{put_leads}
-use borrow.Author.Rules.{rules}
 use Rattle.show.proofs.page_text.Goals as goal
 
 pub returns : goal.returns

@@ -1,7 +1,6 @@
 -- `show::places_text`: the page and the distances, at the buffer's beginning. Assumes nothing.
 use Rattle.show.specs.Text.{places_text}
 use Rattle.show.proofs.Puts.{put_both, put_leads}
-use borrow.Author.Rules.{rules}
 use Rattle.show.proofs.places_text.Goals as goal
 
 pub returns : goal.returns

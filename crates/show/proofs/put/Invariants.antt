@@ -1,11 +1,7 @@
 -- `show::put`: byte by byte. Assumes nothing.
 use Prim.Native.Nat.{◌≤◌, ◌-◌}
-use native.Mathlib.Omega.{arith}
 use lib.ListN.{length, take}
-use lib.Seq.{take_all}
 use Rattle.show.specs.Buffer.{Put}
-use Rattle.show.proofs.Puts.{put_none, put_next, put_length}
-use borrow.Author.Rules.{rules}
 use Rattle.show.proofs.put.Given as goal
 
 abbrev pub invariant-loop-i : goal.invariant-loop-i

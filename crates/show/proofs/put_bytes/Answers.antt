@@ -1,7 +1,6 @@
 -- `show::put_bytes`: one text after another. Assumes nothing.
 use Rattle.show.specs.Text.{bytes_text}
 use Rattle.show.proofs.Puts.{put_both, put_length}
-use borrow.Author.Rules.{rules}
 use Rattle.show.proofs.put_bytes.Goals as goal
 
 pub shape_of-out : goal.shape_of-out

@@ -1,11 +1,8 @@
 -- `show::put_components`: one by one. Assumes nothing.
-use Prim.Native.Nat.{◌≤◌, ◌-◌}
 use mathlib.Core.Path.{◌≡◌}
 use native.Mathlib.Omega.{arith}
 use Rattle.show.specs.Text.{cells_of, components}
-use Rattle.show.specs.Buffer.{Shown}
 use Rattle.show.proofs.Puts.{put_length, shown_none, shown_component}
-use borrow.Author.Rules.{rules}
 use Rattle.show.proofs.put_components.Goals as goal
 
 pub loop-i-init : goal.loop-i-init

@@ -1,7 +1,6 @@
 -- `show::put_damaged`: the page, and its marks. Assumes nothing.
 use Rattle.show.specs.Text.{damaged_text}
 use Rattle.show.proofs.Puts.{put_both}
-use borrow.Author.Rules.{rules}
 use Rattle.show.proofs.put_damaged.Goals as goal
 
 pub returns : goal.returns

@@ -1,6 +1,5 @@
 -- `show::put_distances`: the components of that plane. Assumes nothing.
 use Rattle.show.specs.Text.{distances_text}
-use borrow.Author.Rules.{rules}
 use Rattle.show.proofs.put_distances.Goals as goal
 
 pub returns : goal.returns

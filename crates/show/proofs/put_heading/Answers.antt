@@ -1,6 +1,5 @@
 -- `show::put_heading`: one text after another. Assumes nothing.
 use Rattle.show.proofs.Puts.{put_both}
-use borrow.Author.Rules.{rules}
 use Rattle.show.proofs.put_heading.Goals as goal
 
 pub returns : goal.returns

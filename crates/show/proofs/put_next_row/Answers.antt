@@ -3,10 +3,8 @@ use Prim.Native.Nat.{◌+◌}
 use mathlib.Core.Path.{sym, ◌∙◌}
 use native.Mathlib.Omega.{arith}
 use borrow.Author.Tests.{leb-true}
-use lib.ListN.{length}
 use Rattle.show.specs.Text.{cells_of}
 use Rattle.show.proofs.Puts.{row_shown, row_left}
-use borrow.Author.Rules.{rules}
 use Rattle.show.proofs.put_next_row.Goals as goal
 
 pub overflow_add-next : goal.overflow_add-next

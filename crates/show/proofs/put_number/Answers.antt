@@ -1,8 +1,6 @@
 -- `show::put_number`: its digits. Assumes nothing.
 use mathlib.Core.Path.{◌∙◌}
-use native.Mathlib.Omega.{arith}
 use Rattle.show.proofs.Digits.{few, spelt}
-use borrow.Author.Rules.{rules}
 use Rattle.show.proofs.put_number.Goals as goal
 
 pub returns : goal.returns

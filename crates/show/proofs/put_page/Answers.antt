@@ -1,7 +1,6 @@
 -- `show::put_page`: the answer's line and the components. Assumes nothing.
 use Rattle.show.specs.Text.{page_text}
 use Rattle.show.proofs.Puts.{put_both}
-use borrow.Author.Rules.{rules}
 use Rattle.show.proofs.put_page.Goals as goal
 
 pub returns : goal.returns

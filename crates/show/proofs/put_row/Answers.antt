@@ -1,9 +1,7 @@
 -- `show::put_row`: cell by cell. Assumes nothing.
-use Prim.Native.Nat.{◌≤◌, ◌-◌}
 use mathlib.Core.Path.{◌≡◌}
 use native.Mathlib.Omega.{arith}
 use Rattle.show.specs.Text.{cells_of, cells_text}
-use Rattle.show.specs.Buffer.{Put}
 use Rattle.show.proofs.Puts.{put_none, put_both, put_length, put_cell, few_cells}
 use borrow.Author.Rules.{rules}
 use Rattle.show.proofs.put_row.Goals as goal

@@ -1,11 +1,8 @@
 -- `show::put_rows`: row by row. Assumes nothing.
-use Prim.Native.Nat.{◌≤◌, ◌-◌}
 use mathlib.Core.Path.{◌≡◌}
 use native.Mathlib.Omega.{arith}
 use Rattle.show.specs.Text.{cells_of, rows}
-use Rattle.show.specs.Buffer.{Shown}
 use Rattle.show.proofs.Puts.{put_length, shown_none, shown_row}
-use borrow.Author.Rules.{rules}
 use Rattle.show.proofs.put_rows.Goals as goal
 
 pub loop-y-init : goal.loop-y-init

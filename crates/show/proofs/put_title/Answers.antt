@@ -1,5 +1,4 @@
 -- `show::put_title`: by the plane. Assumes nothing.
-use borrow.Author.Rules.{rules}
 use Rattle.show.proofs.put_title.Goals as goal
 
 pub returns-in-Samples : goal.returns-in-Samples

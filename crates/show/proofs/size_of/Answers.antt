@@ -3,7 +3,6 @@ use borrow.Enum.Refused.{opened}
 use mathlib.Core.Path.{sym, ap}
 use lib.ListN.{length}
 use Rattle.show.proofs.Puts.{words_cells}
-use borrow.Author.Rules.{rules}
 use Rattle.show.proofs.size_of.Goals as goal
 
 pub returns-in-Samples : goal.returns-in-Samples

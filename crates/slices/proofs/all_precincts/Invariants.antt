@@ -1,18 +1,11 @@
-use Prim.Native.Nat.{◌≤◌, ◌<◌, ◌-◌}
-use mathlib.Core.Path.{◌≡◌, refl, sym, ◌∙◌}
-use native.Mathlib.Omega.{arith}
+use Prim.Native.Nat.{◌≤◌, ◌-◌}
+use mathlib.Core.Path.{◌≡◌}
 use lib.ListN.{length}
 use Rattle.rows.specs.declared.Verdict.TheVariants.{Fine}
-use Rattle.loops.proofs.Laws.{Going, begins, goes_on, stops, ends}
-use Rattle.pieces.proofs.Laws.{bytes_end, adds_up, adds_on, adds_end}
+use Rattle.loops.proofs.Laws.{Going}
 use Rattle.layout.specs.Precincts.{Np}
-use Rattle.slices.specs.Slice.{precinct_turn, precincts}
-use Rattle.slices.specs.Pieces.{precincts_pieces}
-use Rattle.layout.proofs.Columns.{slices_most}
-use Rattle.slices.proofs.PrecinctLaws.{settled}
-use Rattle.slices.proofs.SliceLaws.{turned_goes, turned_stops, stops_here}
-use Rattle.slices.proofs.Pieces.{precinct_turn_tiles, PrecinctsAdding, precincts_begin}
-use borrow.Author.Rules.{rules}
+use Rattle.slices.specs.Slice.{precinct_turn}
+use Rattle.slices.proofs.Pieces.{PrecinctsAdding}
 use Rattle.slices.proofs.all_precincts.Given as goal
 
 abbrev pub invariant-loop-n : goal.invariant-loop-n

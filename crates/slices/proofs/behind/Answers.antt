@@ -1,5 +1,4 @@
 use Rattle.slices.proofs.SliceLaws.{behind_fine, behind_refused}
-use borrow.Author.Rules.{rules}
 use Rattle.slices.proofs.behind.Goals as goal
 
 pub returns-in-Fine : goal.returns-in-Fine

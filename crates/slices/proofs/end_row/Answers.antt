@@ -5,7 +5,6 @@ use Rattle.rows.specs.Rows.{check, ample, first}
 use Rattle.rows.specs.declared.Row.TheVariants.{Cut, Marker}
 use Rattle.rows.specs.declared.Field.TheVariants.{Eoc, Tail}
 use Rattle.picture.specs.Markers.{EOC}
-use borrow.Author.Rules.{rules}
 use Rattle.slices.proofs.end_row.Goals as goal
 
 pub returns : goal.returns

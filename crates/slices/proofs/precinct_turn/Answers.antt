@@ -3,7 +3,6 @@ use native.Mathlib.Omega.{arith}
 use Rattle.layout.proofs.Columns.{Npy_most}
 use Rattle.slices.proofs.PrecinctLaws.{own, place_is}
 use Rattle.slices.proofs.SliceLaws.{row_inside, placed_in, seen_precinct, turned}
-use borrow.Author.Rules.{rules}
 use Rattle.slices.proofs.precinct_turn.Goals as goal
 
 pub overflow_mul-top : goal.overflow_mul-top

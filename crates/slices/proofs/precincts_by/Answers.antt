@@ -4,7 +4,6 @@ use Rattle.slices.specs.Pieces.{slice_pieces}
 use Rattle.slices.proofs.PrecinctLaws.{settled}
 use Rattle.slices.proofs.SliceLaws.{stops_here}
 use Rattle.slices.proofs.Pieces.{precincts_few, headed}
-use borrow.Author.Rules.{rules}
 use Rattle.slices.proofs.precincts_by.Goals as goal
 
 pub all_precincts-requires : goal.all_precincts-requires

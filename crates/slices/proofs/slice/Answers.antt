@@ -1,7 +1,6 @@
 use mathlib.Core.Path.{sym, ◌∙◌}
 use Rattle.slices.specs.Slice.{precincts_by, slice}
 use Rattle.slices.proofs.SliceLaws.{header_ends, read_still}
-use borrow.Author.Rules.{rules}
 use Rattle.slices.proofs.slice.Goals as goal
 
 pub precincts_by-requires : goal.precincts_by-requires

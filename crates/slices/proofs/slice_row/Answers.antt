@@ -10,7 +10,6 @@ use Rattle.bits.specs.Fields.{field_at}
 use Rattle.picture.specs.Segment.{segment_at, length_checks}
 use Rattle.picture.proofs.Laws.{at_place}
 use Rattle.slices.specs.Slice.{slice_marker}
-use borrow.Author.Rules.{rules}
 use Rattle.slices.proofs.slice_row.Goals as goal
 
 pub length_row-length-requires : goal.length_row-length-requires

@@ -5,7 +5,6 @@ use Rattle.pieces.specs.Pieces.{Markers, bytes_by, plus, all}
 use Rattle.pieces.specs.declared.Bytes.{Bytes}
 use Rattle.pieces.proofs.Laws.{piece_once}
 use Rattle.slices.specs.Slice.{slice_header_bytes}
-use borrow.Author.Rules.{rules}
 use Rattle.slices.proofs.with_header.Goals as goal
 
 pub and-more-requires : goal.and-more-requires

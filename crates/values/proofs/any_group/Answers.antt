@@ -1,6 +1,5 @@
 -- `values::any_group` meets its contract: either way is the group's. Assumes nothing.
 use Prim.Native.Nat.{◌+◌, ◌/◌}
-use borrow.Author.Rules.{rules}
 use lib.ListN.{length}
 use Rattle.values.proofs.Lanes.{short_is}
 use Rattle.values.proofs.any_group.Goals as goal

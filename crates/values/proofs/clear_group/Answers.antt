@@ -1,10 +1,9 @@
 -- `values::clear_group` meets its contract. Invariant: k places are written. Assumes nothing.
 use mathlib.Core.Path.{◌≡◌, refl}
-use Prim.Native.Nat.{◌+◌, ◌-◌, ◌*◌, ◌≤◌, ◌<◌}
+use Prim.Native.Nat.{◌+◌, ◌*◌, ◌<◌}
 use native.Mathlib.Omega.{arith}
-use lib.IntN.{pos}
 use lib.ListN.{length}
-use Rattle.values.proofs.Places.{Placing, starts, places}
+use Rattle.values.proofs.Places.{starts, places}
 use Rattle.values.proofs.clear_group.Goals.{In-loop-k}
 use Rattle.values.proofs.clear_group.Goals as goal
 

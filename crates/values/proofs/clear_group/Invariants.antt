@@ -1,10 +1,7 @@
 -- `values::clear_group` meets its contract. Invariant: k places are written. Assumes nothing.
-use mathlib.Core.Path.{◌≡◌, refl}
-use Prim.Native.Nat.{◌+◌, ◌-◌, ◌*◌, ◌≤◌, ◌<◌}
-use native.Mathlib.Omega.{arith}
+use Prim.Native.Nat.{◌-◌, ◌≤◌}
 use lib.IntN.{pos}
-use lib.ListN.{length}
-use Rattle.values.proofs.Places.{Placing, starts, places}
+use Rattle.values.proofs.Places.{Placing}
 use Rattle.values.proofs.clear_group.Given as goal
 
 abbrev pub invariant-loop-k : goal.invariant-loop-k

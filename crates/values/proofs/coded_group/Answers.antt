@@ -1,18 +1,16 @@
 -- `values::coded_group` meets its contract. Invariant: k places are written, and `used` counts the signs of their coefficients. Assumes nothing.
 use mathlib.Core.Path.{◌≡◌, refl}
-use Prim.Native.Nat.{◌+◌, ◌-◌, ◌*◌, ◌≤◌, ◌<◌}
+use Prim.Native.Nat.{◌+◌, ◌*◌, ◌<◌}
 use native.Mathlib.Omega.{arith}
 use lib.ListN.{length}
 use Rattle.whole.proofs.Machine.{back64}
 use Rattle.values.specs.Group.{v, sign_bits, index}
-use Rattle.values.specs.Steps.{value}
-use Rattle.values.proofs.Places.{Placing, starts, places}
-use Rattle.values.proofs.Groups.{Read, SignAt, sign_at, size_small, index_is, carried, value_is, used_le, used_more, used_all, group_is}
+use Rattle.values.proofs.Places.{starts, places}
+use Rattle.values.proofs.Groups.{SignAt, sign_at, size_small, index_is, carried, value_is, used_le, used_more, used_all, group_is}
 use Rattle.values.proofs.coded_group.Goals.{After-chosen-in-loop-k, After-signed_index-index, In-loop-k}
 use Rattle.values.proofs.coded_group.Goals as goal
 
 -- ---- a turn
-
 
 module _ (c : In-loop-k) where
   below_four : c.loop-k.k < 4
@@ -35,7 +33,6 @@ index_read c =
 
 -- ---- the answer
 
-
 pub overflow_add-next : goal.overflow_add-next
 overflow_add-next c = omega arith
 
@@ -44,17 +41,16 @@ magnitudes-v-requires c = omega arith
 
 pub loop-k-init : goal.loop-k-init
 unfolding v sign_bits
-loop-k-init c =
-    (
-      omega arith,
-      record {
-        size = λ k h. rw (c.chosen.ensures.value, c.less.ensures) at (c.magnitudes-v.ensures.each k h);
-        signs = c.sign_field-signs.ensures;
-        few = c.requires.m;
-      },
-      refl,
-      starts,
-    )
+loop-k-init c = (
+  omega arith,
+  record {
+    size = λ k h. rw (c.chosen.ensures.value, c.less.ensures) at (c.magnitudes-v.ensures.each k h);
+    signs = c.sign_field-signs.ensures;
+    few = c.requires.m;
+  },
+  refl,
+  starts,
+)
 
 pub offset_bounds-v-k : goal.offset_bounds-v-k
 offset_bounds-v-k c = omega (arith, c.loop-k-test.true, c.requires.count)

@@ -1,13 +1,10 @@
 -- `values::coded_group` meets its contract. Invariant: k places are written, and `used` counts the signs of their coefficients. Assumes nothing.
-use mathlib.Core.Path.{◌≡◌, refl}
-use Prim.Native.Nat.{◌+◌, ◌-◌, ◌*◌, ◌≤◌, ◌<◌}
-use native.Mathlib.Omega.{arith}
-use lib.ListN.{length}
-use Rattle.whole.proofs.Machine.{back64}
-use Rattle.values.specs.Group.{v, sign_bits, index}
+use mathlib.Core.Path.{◌≡◌}
+use Prim.Native.Nat.{◌-◌, ◌≤◌}
+use Rattle.values.specs.Group.{v, sign_bits}
 use Rattle.values.specs.Steps.{value}
-use Rattle.values.proofs.Places.{Placing, starts, places}
-use Rattle.values.proofs.Groups.{Read, SignAt, sign_at, size_small, index_is, carried, value_is, used_le, used_more, used_all, group_is}
+use Rattle.values.proofs.Places.{Placing}
+use Rattle.values.proofs.Groups.{Read}
 use Rattle.values.proofs.coded_group.Given as goal
 
 abbrev pub invariant-loop-k : goal.invariant-loop-k

@@ -1,5 +1,4 @@
 -- `values::group_values` meets its contract: with no plane above T the group takes nothing, and its coefficients are 0. Assumes nothing.
-use borrow.Author.Rules.{rules}
 use Rattle.values.proofs.Groups.{group_none}
 use Rattle.values.proofs.group_values.Goals as goal
 

@@ -1,9 +1,7 @@
 -- `values::line_values` meets its contract. Invariant: the groups before g are in their cells. Assumes nothing.
-use Prim.Native.Nat.{◌-◌, ◌*◌, ◌≤◌, ◌<◌}
+use Prim.Native.Nat.{◌*◌, ◌<◌}
 use native.Mathlib.Omega.{arith}
-use borrow.Author.Rules.{rules}
-use Rattle.bits.specs.Groups.{Ncg}
-use Rattle.values.proofs.Lines.{Reached, reached_first, reached_next, reached_last, fits_group}
+use Rattle.values.proofs.Lines.{reached_first, reached_next, reached_last, fits_group}
 use Rattle.values.proofs.line_values.Goals.{In-loop-g}
 use Rattle.values.proofs.line_values.Goals as goal
 
@@ -28,11 +26,10 @@ pub loop-g-smaller : goal.loop-g-smaller
 loop-g-smaller c = omega arith
 
 pub loop-g-preserved : goal.loop-g-preserved
-loop-g-preserved c =
-    (
-      omega (arith, c.loop-g-test.true),
-      reached_next _ _ _ _ _ _ _ (some (goal.at.loop-g-preserved c).In-loop-g) c.requires.1 c.loop-g.invariant.1 (rw c.group_of-group.ensures at c.any_group-next.ensures),
-    )
+loop-g-preserved c = (
+  omega (arith, c.loop-g-test.true),
+  reached_next _ _ _ _ _ _ _ (some (goal.at.loop-g-preserved c).In-loop-g) c.requires.1 c.loop-g.invariant.1 (rw c.group_of-group.ensures at c.any_group-next.ensures),
+)
 
 pub shape_of-cells : goal.shape_of-cells
 shape_of-cells c = c.loop-g.invariant.1.written.long

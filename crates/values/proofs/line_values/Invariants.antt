@@ -1,9 +1,7 @@
 -- `values::line_values` meets its contract. Invariant: the groups before g are in their cells. Assumes nothing.
-use Prim.Native.Nat.{◌-◌, ◌*◌, ◌≤◌, ◌<◌}
-use native.Mathlib.Omega.{arith}
-use borrow.Author.Rules.{rules}
+use Prim.Native.Nat.{◌-◌, ◌≤◌}
 use Rattle.bits.specs.Groups.{Ncg}
-use Rattle.values.proofs.Lines.{Reached, reached_first, reached_next, reached_last, fits_group}
+use Rattle.values.proofs.Lines.{Reached}
 use Rattle.values.proofs.line_values.Given as goal
 
 abbrev pub invariant-loop-g : goal.invariant-loop-g

@@ -1,9 +1,6 @@
 -- `values::magnitudes` meets its contract. Invariant: each size has the j planes passed. Assumes nothing.
-use mathlib.Core.Path.{◌≡◌, refl}
 use Prim.Native.Nat.{◌-◌, ◌≤◌}
-use native.Mathlib.Omega.{arith}
-use Rattle.values.specs.Group.{planes}
-use Rattle.values.proofs.Planes.{Sized, sized, more_sized, below_four}
+use Rattle.values.proofs.Planes.{Sized}
 use Rattle.values.proofs.magnitudes.Given as goal
 
 abbrev pub invariant-loop-j : goal.invariant-loop-j

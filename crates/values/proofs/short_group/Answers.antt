@@ -1,7 +1,6 @@
 -- `values::short_group` meets its contract: what is read and put is the group's. Assumes nothing.
 use Prim.Native.Nat.{◌-◌}
 use native.Mathlib.Omega.{arith}
-use borrow.Author.Rules.{rules}
 use Rattle.values.specs.Lanes.{IsFound}
 use Rattle.values.proofs.Lanes.{found_sizes, found_few, found_group}
 use Rattle.values.proofs.short_group.Goals.{After-read_group-f}

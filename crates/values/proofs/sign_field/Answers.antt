@@ -1,5 +1,4 @@
 -- `values::sign_field` meets its contract: the test picks the stretch. Assumes nothing.
-use borrow.Author.Rules.{rules}
 use Rattle.values.proofs.sign_field.Goals as goal
 
 pub returns-then-fs : goal.returns-then-fs

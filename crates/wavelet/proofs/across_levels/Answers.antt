@@ -1,10 +1,8 @@
 -- `wavelet::across_levels` is the first loop of Table E.1, row after row. Assumes nothing.
-use Prim.Native.Nat.{◌-◌}
 use native.Mathlib.Omega.{arith}
-use borrow.Author.Rules.{rules}
 use Rattle.wavelet.specs.Kinds.{steps_of}
 use Rattle.wavelet.proofs.Passes.{row_shift}
-use Rattle.wavelet.proofs.Rows.{AcrossDone, across_begins, row_room, row_taken, across_goes_on, across_ends}
+use Rattle.wavelet.proofs.Rows.{across_begins, row_room, row_taken, across_goes_on, across_ends}
 use Rattle.wavelet.proofs.across_levels.Goals as goal
 
 pub low_size-m-requires : goal.low_size-m-requires

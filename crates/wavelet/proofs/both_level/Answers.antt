@@ -1,6 +1,5 @@
 -- `wavelet::both_level` leaves the grid of depth d filtered, its rows and then its columns. Assumes nothing.
 use native.Mathlib.Omega.{arith}
-use borrow.Author.Rules.{rules}
 use Rattle.wavelet.specs.Kinds.{steps_of}
 use Rattle.wavelet.proofs.Passes.{level_grid, level_cells, level_made, row_shift, column_shift}
 use Rattle.wavelet.proofs.both_level.Goals as goal

@@ -1,16 +1,10 @@
 -- `wavelet::both_levels` is the second loop of Table E.1, from whatever band stands on the grid: the invariant is `BothDescending` from it, the measure
 -- the depth. What does not depend on the band is taken from the one that stands there at entry. Assumes nothing.
-use mathlib.Core.List.{List}
-use Prim.Native.Nat.{◌^◌}
-use lib.IntN.{ℤ}
 use native.Mathlib.Omega.{arith}
-use borrow.Author.Rules.{rules}
-use Rattle.wavelet.specs.Transform.{Band}
 use Rattle.wavelet.specs.Kinds.{steps_of}
-use Rattle.wavelet.specs.Grids.{Gridded}
 use Rattle.wavelet.proofs.Tame.{tame}
 use Rattle.wavelet.proofs.Passes.{samples_le}
-use Rattle.wavelet.proofs.Descent.{BothDescending, both_begins, both_pass, both_goes_on, descent_ends, descent_bound, standing}
+use Rattle.wavelet.proofs.Descent.{both_begins, both_pass, both_goes_on, descent_ends, descent_bound, standing}
 use Rattle.wavelet.proofs.both_levels.Goals as goal
 
 pub loop-d-init : goal.loop-d-init

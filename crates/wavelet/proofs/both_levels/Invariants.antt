@@ -3,14 +3,10 @@
 use mathlib.Core.List.{List}
 use Prim.Native.Nat.{◌^◌}
 use lib.IntN.{ℤ}
-use native.Mathlib.Omega.{arith}
-use borrow.Author.Rules.{rules}
 use Rattle.wavelet.specs.Transform.{Band}
 use Rattle.wavelet.specs.Kinds.{steps_of}
 use Rattle.wavelet.specs.Grids.{Gridded}
-use Rattle.wavelet.proofs.Tame.{tame}
-use Rattle.wavelet.proofs.Passes.{samples_le}
-use Rattle.wavelet.proofs.Descent.{BothDescending, both_begins, both_pass, both_goes_on, descent_ends, descent_bound, standing}
+use Rattle.wavelet.proofs.Descent.{BothDescending}
 use Rattle.wavelet.proofs.both_levels.Given as goal
 
 abbrev pub invariant-loop-d : goal.invariant-loop-d

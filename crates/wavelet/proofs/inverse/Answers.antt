@@ -1,5 +1,4 @@
 -- `wavelet::inverse` is the transform of kind 0, samples. Assumes nothing.
-use borrow.Author.Rules.{rules}
 use Rattle.wavelet.specs.Kinds.{steps_of}
 use Rattle.wavelet.proofs.inverse.Goals as goal
 

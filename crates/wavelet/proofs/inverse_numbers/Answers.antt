@@ -1,5 +1,4 @@
 -- `wavelet::inverse_numbers` is the transform of kind 1, numbers. Assumes nothing.
-use borrow.Author.Rules.{rules}
 use Rattle.wavelet.specs.Kinds.{steps_of}
 use Rattle.wavelet.proofs.Rising.{numbers_samples, numbers_made}
 use Rattle.wavelet.proofs.inverse_numbers.Goals as goal

@@ -2,7 +2,6 @@
 use mathlib.Core.Path.{◌≡◌}
 use Prim.Native.Nat.{◌*◌, ◌^◌, ◌%◌}
 use native.Mathlib.Omega.{arith}
-use borrow.Author.Rules.{rules}
 use lib.Pow.{pow_mono, pow_pos}
 use Rattle.whole.proofs.Machine.{one_shl}
 use Rattle.wavelet.proofs.low_size.Goals as goal

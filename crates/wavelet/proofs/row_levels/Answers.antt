@@ -1,11 +1,10 @@
 -- `wavelet::row_levels` is the first loop of Table E.1 over one row: the invariant is `RowDescending`, the measure the depth. Assumes nothing.
 use Prim.Native.Nat.{◌-◌}
 use native.Mathlib.Omega.{arith}
-use borrow.Author.Rules.{rules}
 use Rattle.wavelet.specs.Kinds.{steps_of}
 use Rattle.wavelet.proofs.Tame.{tame}
 use Rattle.wavelet.proofs.Passes.{column_shift}
-use Rattle.wavelet.proofs.Descent.{RowDescending, row_begins, row_length, row_line, row_goes_on, row_ends}
+use Rattle.wavelet.proofs.Descent.{row_begins, row_length, row_line, row_goes_on, row_ends}
 use Rattle.wavelet.proofs.row_levels.Goals as goal
 
 pub loop-d-init : goal.loop-d-init

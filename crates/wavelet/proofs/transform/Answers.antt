@@ -1,5 +1,4 @@
 -- `wavelet::transform` is the two loops of Table E.1. Assumes nothing.
-use borrow.Author.Rules.{rules}
 use Rattle.wavelet.specs.Kinds.{steps_of}
 use Rattle.wavelet.proofs.Descent.{table_made}
 use Rattle.wavelet.proofs.transform.Goals as goal

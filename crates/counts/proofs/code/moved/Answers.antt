@@ -3,7 +3,6 @@ use Prim.Native.Nat.{ℕ, ◌+◌, ◌^◌}
 use mathlib.Core.Path.{◌≡◌, ap, ◌∙◌}
 use native.Mathlib.Omega.{arith}
 use lib.IntN.{pos, ◌+ℤ◌}
-use borrow.Author.Rules.{rules}
 use Rattle.counts.specs.Codes.{vlc}
 use Rattle.counts.proofs.Codes.{moved_by}
 use Rattle.counts.proofs.code.moved.Goals.{After-chosen-to}

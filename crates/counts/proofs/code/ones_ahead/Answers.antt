@@ -1,6 +1,5 @@
 -- `counts::code::ones_ahead` meets its contract: a window at the word's top. Assumes nothing.
 use native.Mathlib.Omega.{arith}
-use borrow.Author.Rules.{rules}
 use Rattle.counts.proofs.Codes.{zeros_fit, ones_shifted}
 use Rattle.counts.proofs.code.ones_ahead.Goals as goal
 

@@ -1,9 +1,8 @@
 -- `counts::code::ones_from` meets its contract. Invariant: the n bits passed are 1-bits. Assumes nothing.
 use Prim.Native.Nat.{◌+◌, ◌-◌, ◌%◌, ◌≤◌}
-use mathlib.Core.Path.{◌≡◌, sym, ◌∙◌}
+use mathlib.Core.Path.{sym, ◌∙◌}
 use native.Mathlib.Omega.{arith}
 use borrow.Author.Rules.{rules}
-use Rattle.counts.specs.Codes.{ones}
 use Rattle.counts.proofs.Codes.{ones_none, ones_le, ones_cap, ones_full, ones_ended}
 use Rattle.counts.proofs.code.ones_from.Goals.{After-ones_in_byte-k}
 use Rattle.counts.proofs.code.ones_from.Goals as goal

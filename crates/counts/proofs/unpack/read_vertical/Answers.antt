@@ -3,7 +3,6 @@ use Prim.Native.Nat.{max}
 use mathlib.Core.Path.{sym, ap, ◌∙◌}
 use native.Mathlib.Nat.{add-zero}
 use lib.IntN.{ℤ}
-use borrow.Author.Rules.{rules}
 use Rattle.counts.specs.Groups.{counted}
 use Rattle.counts.proofs.Codes.{to_t}
 use Rattle.counts.proofs.unpack.read_vertical.Goals as goal

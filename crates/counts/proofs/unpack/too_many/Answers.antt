@@ -1,7 +1,6 @@
 -- `counts::unpack::too_many` meets its contract. Assumes nothing.
 use Prim.Native.Nat.{◌+◌}
 use native.Mathlib.Omega.{arith}
-use borrow.Author.Rules.{rules}
 use lib.Pow.{pow_mono}
 use Rattle.whole.proofs.Machine.{one_shl}
 use Rattle.counts.proofs.unpack.too_many.Goals as goal

@@ -3,7 +3,6 @@ use mathlib.Core.Path.{◌∙◌, sym, ap}
 use Prim.Native.Nat.{◌+◌}
 use lib.IntN.{ℤ}
 use native.Mathlib.Omega.{arith}
-use borrow.Author.Rules.{rules}
 use Rattle.counts.specs.Groups.{counted}
 use Rattle.counts.proofs.Groups.{coded_past, coded_long, coded_cut, coded_count}
 use Rattle.counts.proofs.unpack.walk_code.Goals as goal

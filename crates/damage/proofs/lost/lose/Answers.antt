@@ -1,8 +1,6 @@
 -- `lost::lose` meets its contract. The invariant: the components before i have lost the slice. Assumes nothing.
-use Prim.Native.Nat.{◌-◌, ◌≤◌}
 use mathlib.Core.Path.{◌≡◌, refl, ap, ◌∙◌}
 use native.Mathlib.Omega.{arith}
-use borrow.Author.Rules.{rules}
 use lib.ListN.{length}
 use Rattle.damage.specs.Lost.{lose_before}
 use Rattle.damage.proofs.Losses.{before_length, before_more}

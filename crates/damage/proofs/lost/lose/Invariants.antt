@@ -1,11 +1,7 @@
 -- `lost::lose` meets its contract. The invariant: the components before i have lost the slice. Assumes nothing.
 use Prim.Native.Nat.{◌-◌, ◌≤◌}
-use mathlib.Core.Path.{◌≡◌, refl, ap, ◌∙◌}
-use native.Mathlib.Omega.{arith}
-use borrow.Author.Rules.{rules}
-use lib.ListN.{length}
+use mathlib.Core.Path.{◌≡◌}
 use Rattle.damage.specs.Lost.{lose_before}
-use Rattle.damage.proofs.Losses.{before_length, before_more}
 use Rattle.damage.proofs.lost.lose.Given as goal
 
 abbrev pub invariant-loop-i : goal.invariant-loop-i

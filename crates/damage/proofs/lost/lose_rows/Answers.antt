@@ -1,7 +1,6 @@
 -- `lost::lose_rows` meets its contract. Assumes nothing.
 use native.Mathlib.Omega.{arith}
 use Rattle.damage.proofs.LostRows.{rows_fit, rows_lost_by}
-use borrow.Author.Rules.{rules}
 use Rattle.damage.proofs.lost.lose_rows.Goals as goal
 
 pub overflow_mul-from : goal.overflow_mul-from

@@ -1,11 +1,6 @@
 -- `lost::lost_numbers` meets its contract. The invariant: the coefficients of the components before i have become numbers. Assumes nothing.
-use Prim.Native.Nat.{ℕ, ◌-◌, ◌≤◌}
-use mathlib.Core.Path.{◌≡◌, subst}
-use native.Mathlib.Omega.{arith}
-use borrow.Author.Rules.{rules}
-use Rattle.layout.proofs.Cells.{starts_up}
+use Prim.Native.Nat.{◌-◌, ◌≤◌}
 use Rattle.damage.specs.Steps.{LostNumbersBefore}
-use Rattle.damage.proofs.Numbering.{numbers_none, numbers_more}
 use Rattle.damage.proofs.lost.lost_numbers.Given as goal
 
 abbrev pub invariant-loop-i : goal.invariant-loop-i

@@ -1,8 +1,7 @@
 -- `lost::numbers_from` meets its contract. The invariant: the first k coefficients have become numbers. Assumes nothing.
-use Prim.Native.Nat.{ℕ, ◌+◌, ◌-◌, ◌≤◌}
+use Prim.Native.Nat.{ℕ, ◌+◌}
 use mathlib.Core.Path.{◌≡◌, ap, subst, ◌∙◌}
 use native.Mathlib.Omega.{arith}
-use borrow.Author.Rules.{rules}
 use Rattle.whole.specs.Cells.{cell}
 use Rattle.whole.proofs.Machine.{back64}
 use Rattle.damage.specs.Steps.{lost_number, NumberedBy}

@@ -1,7 +1,6 @@
 -- `lost::rows_of` meets its contract. Assumes nothing.
 use native.Mathlib.Omega.{arith}
 use Rattle.damage.proofs.LostRows.{tall_small, top_small, rows_are}
-use borrow.Author.Rules.{rules}
 use Rattle.damage.proofs.lost.rows_of.Goals as goal
 
 pub overflow_mul-tall : goal.overflow_mul-tall

@@ -4,7 +4,6 @@ use mathlib.Core.Path.{sym, ◌∙◌}
 use borrow.Author.Tests.{lt-ltb, le-ltb}
 use Rattle.segments.specs.Components.{component_at}
 use Rattle.header.specs.Header.{no_component}
-use borrow.Author.Rules.{rules}
 use Rattle.header.proofs.header.component.Goals as goal
 
 pub returns-then-c-h : goal.returns-then-c-h

@@ -2,7 +2,6 @@
 use mathlib.Core.Path.{sym, ◌∙◌}
 use native.Mathlib.Omega.{arith}
 use Rattle.header.specs.Header.{header_by}
-use borrow.Author.Rules.{rules}
 use Rattle.header.proofs.header.header_by.Goals as goal
 
 pub read-requires : goal.read-requires

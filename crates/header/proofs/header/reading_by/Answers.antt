@@ -1,5 +1,4 @@
 -- `header::header::reading_by`: the header is the verdict's. Assumes nothing.
-use borrow.Author.Rules.{rules}
 use Rattle.header.proofs.header.reading_by.Goals as goal
 
 pub returns : goal.returns

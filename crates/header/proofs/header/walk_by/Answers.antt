@@ -4,7 +4,6 @@ use mathlib.Core.Path.{sym, ◌∙◌}
 use native.Mathlib.Omega.{arith}
 use Rattle.header.specs.Header.{walk_by}
 use Rattle.header.specs.Walk.{ended}
-use borrow.Author.Rules.{rules}
 use Rattle.header.proofs.header.walk_by.Goals as goal
 
 pub overflow_add-p : goal.overflow_add-p

@@ -1,7 +1,6 @@
 -- `header::walk::accept`: each arm is the step of its kind. Assumes nothing.
 use mathlib.Core.Path.{sym, ◌∙◌}
 use Rattle.header.specs.Walk.{accepted}
-use borrow.Author.Rules.{rules}
 use Rattle.header.proofs.walk.accept.Goals as goal
 
 pub returns-in-Components : goal.returns-in-Components

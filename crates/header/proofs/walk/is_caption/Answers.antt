@@ -1,6 +1,5 @@
 -- `header::walk::is_caption`: the type is what its reader answers. Assumes nothing.
 use mathlib.Core.Path.{refl}
-use borrow.Author.Rules.{rules}
 use Rattle.header.proofs.walk.is_caption.Goals as goal
 
 pub returns : goal.returns

@@ -1,7 +1,6 @@
 -- `header::walk::judge`: a refusal ends the walk, and nothing else does here. Assumes nothing.
 use mathlib.Core.Path.{sym, ◌∙◌}
 use Rattle.header.specs.Walk.{ended, judged}
-use borrow.Author.Rules.{rules}
 use Rattle.header.proofs.walk.judge.Goals as goal
 
 pub returns-in-Fine : goal.returns-in-Fine

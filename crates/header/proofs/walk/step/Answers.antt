@@ -5,7 +5,6 @@ use Rattle.rows.specs.Rows.{first}
 use Rattle.picture.proofs.Laws.{at_place}
 use Rattle.segments.specs.Segments.{kind_of, segment_checks}
 use Rattle.header.specs.Walk.{judged, step}
-use borrow.Author.Rules.{rules}
 use Rattle.header.proofs.walk.step.Goals as goal
 
 pub segment_row-v-requires : goal.segment_row-v-requires

@@ -1,13 +1,11 @@
 -- `header::walk::walk_from`: the loop is the definition's, by its measure: what is left of the stream falls with each step. Assumes nothing.
-use Prim.Native.Nat.{◌+◌, zero-le}
+use Prim.Native.Nat.{zero-le}
 use mathlib.Core.Path.{sym}
 use native.Mathlib.Omega.{arith}
 use borrow.Author.Tests.{not-true, not-false}
-use lib.ListN.{length}
-use Rattle.loops.proofs.Laws.{Looping, loop_begins, loop_goes_on, loop_stops}
-use Rattle.header.specs.Turns.{turn, begun, walk, Inside}
-use Rattle.header.proofs.Steps.{left, step_falls, turn_on, turn_end, step_inside}
-use borrow.Author.Rules.{rules}
+use Rattle.loops.proofs.Laws.{loop_begins, loop_goes_on, loop_stops}
+use Rattle.header.specs.Turns.{walk}
+use Rattle.header.proofs.Steps.{step_falls, turn_on, turn_end, step_inside}
 use Rattle.header.proofs.walk.walk_from.Goals as goal
 
 pub loop-w-init : goal.loop-w-init

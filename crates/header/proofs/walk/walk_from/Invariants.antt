@@ -1,13 +1,9 @@
 -- `header::walk::walk_from`: the loop is the definition's, by its measure: what is left of the stream falls with each step. Assumes nothing.
-use Prim.Native.Nat.{◌+◌, zero-le}
-use mathlib.Core.Path.{sym}
-use native.Mathlib.Omega.{arith}
-use borrow.Author.Tests.{not-true, not-false}
+use Prim.Native.Nat.{◌+◌}
 use lib.ListN.{length}
-use Rattle.loops.proofs.Laws.{Looping, loop_begins, loop_goes_on, loop_stops}
-use Rattle.header.specs.Turns.{turn, begun, walk, Inside}
-use Rattle.header.proofs.Steps.{left, step_falls, turn_on, turn_end, step_inside}
-use borrow.Author.Rules.{rules}
+use Rattle.loops.proofs.Laws.{Looping}
+use Rattle.header.specs.Turns.{turn, begun, Inside}
+use Rattle.header.proofs.Steps.{left}
 use Rattle.header.proofs.walk.walk_from.Given as goal
 
 abbrev pub invariant-loop-w : goal.invariant-loop-w

@@ -2,7 +2,6 @@
 use mathlib.Core.Bool.{cond}
 use mathlib.Core.Path.{sym, ◌∙◌}
 use Rattle.bits.specs.Fields.{field_at}
-use borrow.Author.Rules.{rules}
 use Rattle.header.proofs.weights.byte_if.Goals as goal
 
 pub returns-then-is : goal.returns-then-is

@@ -5,7 +5,6 @@ use native.Mathlib.Omega.{arith}
 use borrow.Author.Tests.{lt-ltb, le-ltb}
 use Rattle.segments.specs.Bands.{bands}
 use Rattle.segments.specs.Weights.{band_in}
-use borrow.Author.Rules.{rules}
 use Rattle.header.proofs.weights.is_band.Goals as goal
 
 pub band_exists-requires : goal.band_exists-requires

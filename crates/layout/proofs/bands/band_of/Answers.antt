@@ -1,7 +1,6 @@
 -- `layout::bands::band_of` meets its contract. Assumes nothing.
 use mathlib.Core.Path.{◌≡◌, sym, subst, ◌∙◌}
 use Prim.Native.Nat.{◌*◌, ◌-◌, ◌%◌, ◌^◌, ◌≤◌, min}
-use borrow.Author.Rules.{rules}
 use lib.Dec.{eqb}
 use Rattle.layout.specs.declared.bands.Band.{Band}
 use Rattle.layout.specs.Bands.{kind, dx, dy, depth, exists}

@@ -1,7 +1,6 @@
 -- `layout::bands::component_of` meets its contract. Assumes nothing.
 use mathlib.Core.Path.{◌≡◌}
 use native.Mathlib.Omega.{arith}
-use borrow.Author.Rules.{rules}
 use lib.ListN.{get_or}
 use Rattle.layout.specs.Bands.{Wc, Hc, N'y}
 use Rattle.layout.specs.Sizes.{component_of}

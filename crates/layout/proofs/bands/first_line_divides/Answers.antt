@@ -3,7 +3,6 @@ use mathlib.Core.Path.{ap}
 use Prim.Native.Nat.{ℕ, ◌*◌, ◌%◌}
 use native.Mathlib.Nat.{mul-le-mul, mod-zero}
 use native.Mathlib.Omega.{arith}
-use borrow.Author.Rules.{rules}
 use lib.Dec.{eqb}
 use Rattle.layout.proofs.bands.first_line_divides.Goals as goal
 

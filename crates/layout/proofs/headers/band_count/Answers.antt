@@ -2,7 +2,6 @@
 use mathlib.Core.Path.{◌≡◌, ap}
 use Prim.Native.Nat.{ℕ, ◌*◌, ◌≤◌}
 use native.Mathlib.Omega.{arith}
-use borrow.Author.Rules.{rules}
 use Rattle.layout.specs.Bands.{NL}
 use Rattle.layout.specs.declared.Shape.{Shape}
 use Rattle.layout.proofs.Sums.{bands_most}

@@ -1,5 +1,4 @@
 -- `layout::headers::band_exists` meets its contract. Assumes nothing.
-use borrow.Author.Rules.{rules}
 use Rattle.layout.proofs.Sums.{band_type, band_component}
 use Rattle.layout.proofs.headers.band_exists.Goals as goal
 

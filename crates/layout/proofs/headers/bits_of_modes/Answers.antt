@@ -1,9 +1,8 @@
 -- `layout::headers::bits_of_modes` meets its contract: the loop fills the array, and carries the bit of the next band. Assumes nothing.
-use Prim.Native.Nat.{◌+◌, ◌*◌, ◌-◌, ◌≤◌, min}
+use Prim.Native.Nat.{◌+◌, min}
 use mathlib.Core.Path.{◌≡◌, refl, ap, ◌∙◌}
 use native.Mathlib.Omega.{arith}
-use borrow.Author.Rules.{rules}
-use Rattle.whole.proofs.Lists.{Filled, filled_none, filled_more, filled_all}
+use Rattle.whole.proofs.Lists.{filled_none, filled_more, filled_all}
 use Rattle.layout.specs.Bands.{NL}
 use Rattle.layout.specs.Headers.{modes, mode_bit}
 use Rattle.layout.proofs.Sums.{width_most, mode_bit_next}

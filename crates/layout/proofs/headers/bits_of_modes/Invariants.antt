@@ -1,12 +1,9 @@
 -- `layout::headers::bits_of_modes` meets its contract: the loop fills the array, and carries the bit of the next band. Assumes nothing.
 use Prim.Native.Nat.{◌+◌, ◌*◌, ◌-◌, ◌≤◌, min}
-use mathlib.Core.Path.{◌≡◌, refl, ap, ◌∙◌}
-use native.Mathlib.Omega.{arith}
-use borrow.Author.Rules.{rules}
-use Rattle.whole.proofs.Lists.{Filled, filled_none, filled_more, filled_all}
+use mathlib.Core.Path.{◌≡◌}
+use Rattle.whole.proofs.Lists.{Filled}
 use Rattle.layout.specs.Bands.{NL}
-use Rattle.layout.specs.Headers.{modes, mode_bit}
-use Rattle.layout.proofs.Sums.{width_most, mode_bit_next}
+use Rattle.layout.specs.Headers.{mode_bit}
 use Rattle.layout.proofs.headers.bits_of_modes.Given as goal
 
 abbrev pub invariant-loop-b : goal.invariant-loop-b

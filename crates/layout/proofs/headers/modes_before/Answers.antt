@@ -1,9 +1,8 @@
 -- `layout::headers::modes_before` meets its contract: after k turns n counts the bands below k. Assumes nothing.
 use mathlib.Core.Path.{◌≡◌, refl, sym, ap, ◌∙◌}
 use mathlib.Core.Bool.{cond}
-use Prim.Native.Nat.{◌+◌, ◌-◌, ◌≤◌}
+use Prim.Native.Nat.{◌+◌}
 use native.Mathlib.Omega.{arith}
-use borrow.Author.Rules.{rules}
 use Rattle.layout.specs.Headers.{modes}
 use Rattle.layout.proofs.Sums.{one_most, modes_next, bands_most}
 use Rattle.layout.proofs.headers.modes_before.Goals as goal

@@ -2,7 +2,6 @@
 use mathlib.Core.Path.{◌≡◌, ◌∙◌}
 use Prim.Native.Nat.{◌*◌}
 use native.Mathlib.Omega.{arith}
-use borrow.Author.Rules.{rules}
 use Rattle.layout.specs.Cells.{area}
 use Rattle.layout.proofs.Sums.{area_most}
 use Rattle.layout.proofs.lines.area_of.Goals as goal

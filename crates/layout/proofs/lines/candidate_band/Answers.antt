@@ -2,7 +2,6 @@
 use mathlib.Core.Path.{◌≡◌, ◌∙◌}
 use Prim.Native.Nat.{◌+◌, ◌*◌, ◌<◌}
 use native.Mathlib.Omega.{arith}
-use borrow.Author.Rules.{rules}
 use Rattle.layout.specs.Bands.{NL}
 use Rattle.layout.specs.Sizes.{candidate_band}
 use Rattle.layout.proofs.Slots.{band_is, band_there}

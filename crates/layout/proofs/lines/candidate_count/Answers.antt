@@ -2,7 +2,6 @@
 use mathlib.Core.Path.{◌≡◌}
 use Prim.Native.Nat.{◌*◌}
 use native.Mathlib.Omega.{arith}
-use borrow.Author.Rules.{rules}
 use Rattle.layout.specs.Slots.{candidates}
 use Rattle.layout.proofs.Slots.{candidates_most}
 use Rattle.layout.proofs.lines.candidate_count.Goals.{After-struct_known-2-1}

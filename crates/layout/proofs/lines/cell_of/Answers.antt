@@ -2,7 +2,6 @@
 use mathlib.Core.Path.{ap, ◌∙◌}
 use Prim.Native.Nat.{ℕ, ◌+◌, ◌*◌, ◌≤◌}
 use native.Mathlib.Omega.{arith}
-use borrow.Author.Rules.{rules}
 use Rattle.layout.proofs.Sizes.{place_most}
 use Rattle.layout.proofs.lines.cell_of.Goals.{After-place}
 use Rattle.layout.proofs.lines.cell_of.Goals as goal
@@ -27,8 +26,7 @@ pub overflow_add-result : goal.overflow_add-result
 overflow_add-result c = omega (arith, left (goal.at.overflow_add-result c).After-place, c.product.ensures.1)
 
 pub returns : goal.returns
-returns c =
-    (
-      (λ i. (c.product.ensures.0 ∙ ap (λ (n : ℕ). n * c.args.b.part.w) c.place-top.ensures) i + c.place.ensures i),
-      omega (arith, left (goal.at.returns c).After-place, c.product.ensures.1),
-    )
+returns c = (
+  (λ i. (c.product.ensures.0 ∙ ap (λ (n : ℕ). n * c.args.b.part.w) c.place-top.ensures) i + c.place.ensures i),
+  omega (arith, left (goal.at.returns c).After-place, c.product.ensures.1),
+)

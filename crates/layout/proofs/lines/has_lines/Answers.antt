@@ -4,7 +4,6 @@ use mathlib.Core.Bool.{Bool, true, false, ◌&&◌}
 use Prim.Native.Nat.{ℕ, ◌+◌, ◌-◌, ◌/◌, ◌%◌, ◌<◌, min}
 use native.Mathlib.Nat.{zero-mod, zero-div, add-zero}
 use native.Mathlib.Omega.{arith}
-use borrow.Author.Rules.{rules}
 use lib.Dec.{eqb, ltb, lit<}
 use lib.Pow.{pow_pos}
 use Rattle.layout.specs.Bands.{sy, N'y, Hb, exists, depth}

@@ -32,12 +32,15 @@ line_of-requires c =
     let s = c.args.s in
     let j = c.args.j in
     let f = slot_fits s c.requires.0 c.args.k j c.requires.3 c.requires.4 in
-    let back = sym c.slot_of-slot.ensures in record { built = (c.requires.0, c.requires.1, c.requires.2); beta_bound = (
+    let back = sym c.slot_of-slot.ensures in record {
+      built = (c.requires.0, c.requires.1, c.requires.2);
+      beta_bound = (
         subst (λ (t : Slot). t.first + j / s.nc < Nβ s) back f.0,
         mod-lt j c.requires.0.some,
         subst (λ (t : Slot). t.line < 4) back f.1,
         subst (λ (t : Slot). t.line < 2 ^ (s.nly - dy s (t.first + j / s.nc))) back f.2,
-      ) }
+      );
+    }
 
 pub returns : goal.returns
 unfolding line_at

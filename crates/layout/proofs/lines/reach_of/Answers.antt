@@ -4,7 +4,6 @@ use mathlib.Core.Bool.{◌&&◌}
 use Prim.Native.Nat.{ℕ, ◌+◌, ◌*◌, ◌-◌, ◌/◌, ◌%◌, ◌^◌}
 use native.Mathlib.Nat.{mul-le-mul, div-le_self}
 use native.Mathlib.Omega.{arith}
-use borrow.Author.Rules.{rules}
 use lib.Dec.{eqb, ltb}
 use lib.Pow.{pow_mono}
 use Rattle.layout.proofs.lines.reach_of.Goals as goal

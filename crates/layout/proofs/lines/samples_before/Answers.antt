@@ -1,8 +1,7 @@
 -- `layout::lines::samples_before` meets its contract: after k turns n counts the samples of the components below k. Assumes nothing.
 use mathlib.Core.Path.{◌≡◌, refl, sym, ap, ◌∙◌}
-use Prim.Native.Nat.{◌+◌, ◌-◌, ◌≤◌}
+use Prim.Native.Nat.{◌+◌}
 use native.Mathlib.Omega.{arith}
-use borrow.Author.Rules.{rules}
 use Rattle.layout.specs.Cells.{samples}
 use Rattle.layout.proofs.Sums.{samples_next, samples_most}
 use Rattle.layout.proofs.lines.samples_before.Goals as goal

@@ -1,10 +1,7 @@
 -- `layout::lines::samples_before` meets its contract: after k turns n counts the samples of the components below k. Assumes nothing.
-use mathlib.Core.Path.{◌≡◌, refl, sym, ap, ◌∙◌}
-use Prim.Native.Nat.{◌+◌, ◌-◌, ◌≤◌}
-use native.Mathlib.Omega.{arith}
-use borrow.Author.Rules.{rules}
+use mathlib.Core.Path.{◌≡◌}
+use Prim.Native.Nat.{◌-◌, ◌≤◌}
 use Rattle.layout.specs.Cells.{samples}
-use Rattle.layout.proofs.Sums.{samples_next, samples_most}
 use Rattle.layout.proofs.lines.samples_before.Given as goal
 
 abbrev pub invariant-loop-k : goal.invariant-loop-k

@@ -2,7 +2,6 @@
 use mathlib.Core.Path.{sym, ap, ◌∙◌}
 use Prim.Native.Nat.{ℕ, ◌+◌, ◌*◌, ◌-◌, ◌/◌, ◌%◌}
 use native.Mathlib.Omega.{arith}
-use borrow.Author.Rules.{rules}
 use Rattle.layout.specs.Slots.{turn_of}
 use Rattle.layout.proofs.Filters.{first_is}
 use Rattle.layout.proofs.Slots.{slots_most, first_type, first_count, first_line, later_type, later_types, later_line, later_turn}

@@ -3,7 +3,6 @@ use mathlib.Core.Path.{ap, ◌∙◌}
 use Prim.Native.Nat.{ℕ, ◌*◌, ◌<◌}
 use native.Mathlib.Nat.{mul-le-mul}
 use native.Mathlib.Omega.{arith}
-use borrow.Author.Rules.{rules}
 use Rattle.whole.specs.Numbers.{ceil_div}
 use Rattle.wavelet.specs.Transform.{low_size, high_size}
 use Rattle.layout.specs.Precincts.{by_letter}

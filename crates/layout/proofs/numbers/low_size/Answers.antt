@@ -1,7 +1,6 @@
 -- `layout::numbers::low_size` meets its contract. Assumes nothing.
 use mathlib.Core.Path.{ap}
 use Prim.Native.Nat.{ℕ, ◌+◌, ◌-◌, ◌/◌, ◌^◌}
-use borrow.Author.Rules.{rules}
 use Rattle.layout.proofs.numbers.low_size.Goals as goal
 
 pub returns : goal.returns

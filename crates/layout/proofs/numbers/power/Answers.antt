@@ -1,6 +1,5 @@
 -- `layout::numbers::power` meets its contract. Assumes nothing.
 use native.Mathlib.Omega.{arith}
-use borrow.Author.Rules.{rules}
 use lib.Pow.{pow_pos, pow_mono}
 use Rattle.whole.proofs.Machine.{one_shl}
 use Rattle.layout.proofs.numbers.power.Goals as goal

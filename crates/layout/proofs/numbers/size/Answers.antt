@@ -1,7 +1,6 @@
 -- `layout::numbers::size` meets its contract. Assumes nothing.
 use mathlib.Core.Path.{◌∙◌, sym, ap}
 use Prim.Native.Nat.{ℕ, ◌/◌}
-use borrow.Author.Rules.{rules}
 use Rattle.wavelet.specs.Transform.{low_size, high_size}
 use Rattle.layout.proofs.Sizes.{letter_low, letter_high}
 use Rattle.layout.proofs.numbers.size.Goals as goal

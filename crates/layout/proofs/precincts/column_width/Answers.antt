@@ -2,7 +2,6 @@
 use mathlib.Core.Path.{◌≡◌, sym, ap, ◌∙◌}
 use Prim.Native.Nat.{ℕ, ◌*◌}
 use native.Mathlib.Omega.{arith}
-use borrow.Author.Rules.{rules}
 use Rattle.layout.specs.Bands.{sx}
 use Rattle.layout.specs.Precincts.{largest, Cs}
 use Rattle.layout.proofs.Columns.{Cs_columns, Cs_whole, Cs_range, wide_most}

@@ -2,7 +2,6 @@
 use mathlib.Core.Path.{◌≡◌, sym, ap, ◌∙◌}
 use Prim.Native.Nat.{ℕ, max}
 use native.Mathlib.Omega.{arith}
-use borrow.Author.Rules.{rules}
 use Rattle.layout.specs.Bands.{sx}
 use Rattle.layout.specs.Precincts.{largest}
 use Rattle.layout.proofs.Columns.{largest_four, largest_one, largest_two}

@@ -1,7 +1,6 @@
 -- `layout::precincts::precinct_columns` meets its contract. Assumes nothing.
 use mathlib.Core.Path.{◌≡◌, ap, ◌∙◌}
 use native.Mathlib.Omega.{arith}
-use borrow.Author.Rules.{rules}
 use Rattle.whole.specs.Numbers.{ceil_div}
 use Rattle.layout.specs.Precincts.{Npx}
 use Rattle.layout.proofs.Columns.{Npx_most}

@@ -2,7 +2,6 @@
 use mathlib.Core.Path.{◌≡◌, ap, ◌∙◌}
 use Prim.Native.Nat.{ℕ}
 use native.Mathlib.Omega.{arith}
-use borrow.Author.Rules.{rules}
 use Rattle.whole.specs.Numbers.{ceil_div}
 use Rattle.layout.specs.Precincts.{slices}
 use Rattle.layout.proofs.Columns.{slices_most}

@@ -1,5 +1,4 @@
 -- `packets::bands::truncation_of` meets its contract. Assumes nothing.
-use borrow.Author.Rules.{rules}
 use native.Mathlib.Omega.{arith}
 use Rattle.layout.proofs.Sums.{bands_most}
 use Rattle.packets.proofs.LinePasses.{truncation_is}

@@ -1,10 +1,7 @@
 -- `packets::passes::all_marks` meets its contract. Assumes nothing.
 use mathlib.Core.Path.{◌≡◌, refl}
-use Prim.Native.Nat.{◌≤◌, ◌-◌, ◌*◌, ◌^◌}
 use native.Mathlib.Omega.{arith}
-use borrow.Author.Rules.{rules}
 use Rattle.layout.specs.Slots.{candidates}
-use Rattle.packets.specs.Passes.{marks}
 use Rattle.packets.proofs.LinePasses.{marks_none, marks_more}
 use Rattle.packets.proofs.passes.all_marks.Goals as goal
 

@@ -1,13 +1,8 @@
 -- `packets::passes::any_line` meets its contract. Assumes nothing.
-use mathlib.Core.Path.{◌≡◌, sym, ap, ◌∙◌}
+use mathlib.Core.Path.{◌≡◌}
 use mathlib.Core.Bool.{false}
 use Prim.Native.Nat.{◌≤◌, ◌-◌}
-use native.Mathlib.Omega.{arith}
-use borrow.Author.Rules.{rules}
-use Rattle.layout.specs.Slots.{candidates}
-use Rattle.layout.specs.declared.Line.{Line}
 use Rattle.packets.specs.Packets.{any_line}
-use Rattle.packets.proofs.LinePasses.{any_later, any_none, any_more}
 use Rattle.packets.proofs.passes.any_line.Given as goal
 
 abbrev pub invariant-loop-j : goal.invariant-loop-j

@@ -1,7 +1,6 @@
 -- `packets::passes::coding_of` meets its contract. Assumes nothing.
 use mathlib.Core.Path.{ap, ◌∙◌}
 use Prim.Native.Nat.{◌/◌}
-use borrow.Author.Rules.{rules}
 use lib.Dec.{eqb}
 use Rattle.packets.specs.Passes.{mode_of}
 use Rattle.packets.proofs.passes.coding_of.Goals as goal

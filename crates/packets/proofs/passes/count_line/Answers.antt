@@ -1,6 +1,5 @@
 -- `packets::passes::count_line` meets its contract. Assumes nothing.
 use native.Mathlib.Omega.{arith}
-use borrow.Author.Rules.{rules}
 use Rattle.packets.proofs.LinePasses.{count_ready, count_there, count_absent}
 use Rattle.packets.proofs.passes.count_line.Goals as goal
 

@@ -1,7 +1,6 @@
 -- `packets::passes::marks_at` meets its contract: a band without flags has none, whether the line is there or not. Assumes nothing.
 use mathlib.Core.Path.{◌∙◌, ap, subst}
 use native.Mathlib.Omega.{arith}
-use borrow.Author.Rules.{rules}
 use Rattle.layout.specs.declared.Line.{Line}
 use Rattle.layout.specs.Slots.{line as layout-line, line_at}
 use Rattle.packets.specs.Passes.{line}

@@ -1,6 +1,5 @@
 -- `packets::passes::mode_by` meets its contract. Assumes nothing.
 use borrow.Author.Tests.{eq-eqb, ne_eqb}
-use borrow.Author.Rules.{rules}
 use Rattle.packets.proofs.passes.mode_by.Goals as goal
 
 pub returns-then-d-eq0 : goal.returns-then-d-eq0

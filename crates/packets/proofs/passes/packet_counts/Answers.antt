@@ -1,15 +1,12 @@
 -- `packets::passes::packet_counts` meets its contract. Assumes nothing.
 use mathlib.Core.Bool.{true}
 use mathlib.Core.Path.{◌≡◌, refl, ◌∙◌}
-use Prim.Native.Nat.{◌≤◌, ◌<◌, ◌-◌, ◌*◌, ◌^◌}
+use Prim.Native.Nat.{◌≤◌, ◌<◌, ◌^◌}
 use native.Mathlib.Omega.{arith}
-use borrow.Author.Rules.{rules}
-use lib.ListN.{length}
-use Rattle.loops.proofs.Laws.{Going, begins, goes_on, stops, ends}
+use Rattle.loops.proofs.Laws.{begins, goes_on, stops, ends}
 use Rattle.layout.specs.Slots.{candidates}
-use Rattle.counts.specs.declared.Line.TheVariants.{Done}
 use Rattle.packets.specs.Steps.{Lies}
-use Rattle.packets.specs.Passes.{Counting, marks, count_turn, packet_counts}
+use Rattle.packets.specs.Passes.{packet_counts}
 use Rattle.packets.proofs.Lines.{lies_read}
 use Rattle.packets.proofs.LinePasses.{count_turn_lem, count_few, marks_none, marks_more, standing_still}
 use Rattle.packets.proofs.passes.packet_counts.Goals.{After-candidate-l, In-Done, In-loop-j}

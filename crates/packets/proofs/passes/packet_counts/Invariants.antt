@@ -1,17 +1,11 @@
 -- `packets::passes::packet_counts` meets its contract. Assumes nothing.
-use mathlib.Core.Bool.{true}
-use mathlib.Core.Path.{◌≡◌, refl, ◌∙◌}
-use Prim.Native.Nat.{◌≤◌, ◌<◌, ◌-◌, ◌*◌, ◌^◌}
-use native.Mathlib.Omega.{arith}
-use borrow.Author.Rules.{rules}
+use mathlib.Core.Path.{◌≡◌}
+use Prim.Native.Nat.{◌≤◌, ◌-◌, ◌*◌, ◌^◌}
 use lib.ListN.{length}
-use Rattle.loops.proofs.Laws.{Going, begins, goes_on, stops, ends}
+use Rattle.loops.proofs.Laws.{Going}
 use Rattle.layout.specs.Slots.{candidates}
 use Rattle.counts.specs.declared.Line.TheVariants.{Done}
-use Rattle.packets.specs.Steps.{Lies}
-use Rattle.packets.specs.Passes.{Counting, marks, count_turn, packet_counts}
-use Rattle.packets.proofs.Lines.{lies_read}
-use Rattle.packets.proofs.LinePasses.{count_turn_lem, count_few, marks_none, marks_more, standing_still}
+use Rattle.packets.specs.Passes.{Counting, marks, count_turn}
 use Rattle.packets.proofs.passes.packet_counts.Given as goal
 
 abbrev pub invariant-loop-j : goal.invariant-loop-j

@@ -1,17 +1,12 @@
 -- `packets::passes::packet_values` meets its contract. Assumes nothing.
 use mathlib.Core.Bool.{true}
 use mathlib.Core.Path.{◌≡◌, refl, ◌∙◌}
-use mathlib.Core.List.{List}
-use Prim.Native.Nat.{◌≤◌, ◌<◌, ◌-◌, ◌*◌, ◌^◌}
+use Prim.Native.Nat.{◌<◌}
 use native.Mathlib.Omega.{arith}
-use borrow.Author.Rules.{rules}
-use lib.IntN.{ℤ}
-use lib.ListN.{length}
-use Rattle.loops.proofs.Laws.{Going, begins, goes_on, ends}
+use Rattle.loops.proofs.Laws.{begins, goes_on, ends}
 use Rattle.layout.specs.Slots.{candidates}
-use Rattle.values.specs.declared.Next.{Next}
 use Rattle.packets.specs.Steps.{Lies}
-use Rattle.packets.specs.Passes.{value_turn, packet_values}
+use Rattle.packets.specs.Passes.{packet_values}
 use Rattle.packets.proofs.Lines.{lies_read}
 use Rattle.packets.proofs.LinePasses.{value_turn_lem, value_few}
 use Rattle.packets.proofs.passes.packet_values.Goals.{After-candidate-l, In-loop-j}

@@ -1,19 +1,13 @@
 -- `packets::passes::packet_values` meets its contract. Assumes nothing.
-use mathlib.Core.Bool.{true}
-use mathlib.Core.Path.{◌≡◌, refl, ◌∙◌}
+use mathlib.Core.Path.{◌≡◌}
 use mathlib.Core.List.{List}
-use Prim.Native.Nat.{◌≤◌, ◌<◌, ◌-◌, ◌*◌, ◌^◌}
-use native.Mathlib.Omega.{arith}
-use borrow.Author.Rules.{rules}
+use Prim.Native.Nat.{◌≤◌, ◌-◌, ◌*◌, ◌^◌}
 use lib.IntN.{ℤ}
 use lib.ListN.{length}
-use Rattle.loops.proofs.Laws.{Going, begins, goes_on, ends}
+use Rattle.loops.proofs.Laws.{Going}
 use Rattle.layout.specs.Slots.{candidates}
 use Rattle.values.specs.declared.Next.{Next}
-use Rattle.packets.specs.Steps.{Lies}
-use Rattle.packets.specs.Passes.{value_turn, packet_values}
-use Rattle.packets.proofs.Lines.{lies_read}
-use Rattle.packets.proofs.LinePasses.{value_turn_lem, value_few}
+use Rattle.packets.specs.Passes.{value_turn}
 use Rattle.packets.proofs.passes.packet_values.Given as goal
 
 abbrev pub invariant-loop-j : goal.invariant-loop-j

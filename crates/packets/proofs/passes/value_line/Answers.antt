@@ -1,5 +1,4 @@
 -- `packets::passes::value_line` meets its contract. Assumes nothing.
-use borrow.Author.Rules.{rules}
 use Rattle.packets.proofs.LinePasses.{value_fit, value_there, value_absent}
 use Rattle.packets.proofs.passes.value_line.Goals as goal
 

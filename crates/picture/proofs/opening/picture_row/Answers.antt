@@ -10,7 +10,6 @@ use Rattle.picture.specs.Markers.{PIH}
 use Rattle.picture.specs.Picture.{picture_at, field_checks}
 use Rattle.picture.specs.Segment.{segment_at, marker_checks, length_checks}
 use Rattle.picture.proofs.Laws.{at_place}
-use borrow.Author.Rules.{rules}
 use Rattle.picture.proofs.opening.picture_row.Goals as goal
 
 pub length_row-lpih-requires : goal.length_row-lpih-requires

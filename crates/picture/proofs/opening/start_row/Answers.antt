@@ -8,7 +8,6 @@ use Rattle.rows.proofs.Tables.{joined}
 use Rattle.picture.specs.Markers.{SOC, CAP}
 use Rattle.picture.specs.Segment.{segment_at, marker_checks, length_checks}
 use Rattle.picture.proofs.Laws.{at_place}
-use borrow.Author.Rules.{rules}
 use Rattle.picture.proofs.opening.start_row.Goals as goal
 
 pub length_row-lcap-requires : goal.length_row-lcap-requires

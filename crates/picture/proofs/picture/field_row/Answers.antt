@@ -2,7 +2,6 @@
 use mathlib.Core.List.{◌++◌}
 use Rattle.rows.proofs.Tables.{joined}
 use Rattle.picture.specs.Picture.{size_checks, precision_checks, mode_checks, level_checks}
-use borrow.Author.Rules.{rules}
 use Rattle.picture.proofs.picture.field_row.Goals as goal
 
 pub returns : goal.returns

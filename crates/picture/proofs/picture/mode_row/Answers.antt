@@ -1,6 +1,5 @@
 -- `picture::picture::mode_row`: the table, with the ranges that depend on Nc and Cpih. Assumes nothing.
 use mathlib.Core.Path.{◌∙◌}
-use borrow.Author.Rules.{rules}
 use Rattle.picture.proofs.picture.mode_row.Goals as goal
 
 pub returns : goal.returns

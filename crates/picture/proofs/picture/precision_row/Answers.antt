@@ -7,7 +7,6 @@ use lib.Dec.{ltb}
 use Rattle.rows.specs.Rows.{check, first}
 use Rattle.rows.specs.declared.Field.TheVariants.{Nc, Ng, Ss, Bw, Fq, Br}
 use Rattle.rows.specs.declared.Row.TheVariants.{Value, Lacking}
-use borrow.Author.Rules.{rules}
 use Rattle.picture.proofs.picture.precision_row.Goals as goal
 
 pub returns : goal.returns

@@ -1,6 +1,5 @@
 -- `and` meets its contract: each sum is at most that of the nine. Assumes nothing.
 use native.Mathlib.Omega.{arith}
-use borrow.Author.Rules.{rules}
 use Rattle.pieces.proofs.Bytes.and.Goals as goal
 
 pub overflow_add-result-7 : goal.overflow_add-result-7

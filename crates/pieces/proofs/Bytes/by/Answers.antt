@@ -1,6 +1,5 @@
 -- `by` meets its contract. Assumes nothing.
 use mathlib.Core.Path.{sym}
-use borrow.Author.Rules.{rules}
 use Rattle.pieces.specs.Pieces.{bytes_by}
 use Rattle.pieces.proofs.Bytes.by.Goals as goal
 

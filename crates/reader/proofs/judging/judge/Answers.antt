@@ -1,5 +1,4 @@
 -- `reader::judging::judge` meets its contract. Assumes nothing.
-use borrow.Author.Rules.{rules}
 use Rattle.reader.proofs.judging.judge.Goals as goal
 
 pub judge_by-requires : goal.judge_by-requires

@@ -6,7 +6,6 @@ use Rattle.reader.specs.Steps.{Opened}
 use Rattle.reader.proofs.Openings.{opened}
 use Rattle.reader.proofs.Leaving.{roomy}
 use Rattle.reader.proofs.Judgement.{judges, judges_none}
-use borrow.Author.Rules.{rules}
 use Rattle.reader.proofs.judging.judge_by.Goals as goal
 
 pub samples_before-n-requires : goal.samples_before-n-requires

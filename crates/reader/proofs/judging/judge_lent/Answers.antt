@@ -4,7 +4,6 @@ use Prim.Native.Nat.{ℕ, ◌*◌}
 use lib.Seq.{length-take-le}
 use Rattle.reader.proofs.Leaving.{work_back}
 use Rattle.reader.proofs.Judgement.{behind_none}
-use borrow.Author.Rules.{rules}
 use Rattle.reader.proofs.judging.judge_lent.Goals as goal
 
 pub slice_bounds-judge_slices-end : goal.slice_bounds-judge_slices-end

@@ -4,7 +4,6 @@ use Prim.Native.Nat.{ℕ}
 use lib.IntN.{pos}
 use lib.ListN.{replicate}
 use Rattle.reader.proofs.Decoded.{left_long}
-use borrow.Author.Rules.{rules}
 use Rattle.reader.proofs.judging.judge_slices.Goals as goal
 
 pub returns : goal.returns

@@ -1,7 +1,6 @@
 -- `reader::records::refused` meets its contract. Assumes nothing.
 use mathlib.Core.Bool.{false}
 use lib.ListN.{replicate}
-use borrow.Author.Rules.{rules}
 use Rattle.pieces.specs.Pieces.{nothing}
 use Rattle.reader.proofs.records.refused.Goals as goal
 

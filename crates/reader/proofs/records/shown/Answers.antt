@@ -1,6 +1,5 @@
 -- `reader::records::shown` meets its contract. Assumes nothing.
 use mathlib.Core.List.{[], ◌∷◌}
-use borrow.Author.Rules.{rules}
 use Rattle.whole.specs.Cells.{listed}
 use Rattle.reader.proofs.records.shown.Goals as goal
 

@@ -1,6 +1,5 @@
 -- `reader::records::size_of` meets its contract. Assumes nothing.
 use native.Mathlib.Omega.{arith}
-use borrow.Author.Rules.{rules}
 use Rattle.reader.proofs.Openings.{size_there, size_none}
 use Rattle.reader.proofs.records.size_of.Goals as goal
 

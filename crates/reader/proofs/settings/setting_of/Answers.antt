@@ -2,7 +2,6 @@
 use mathlib.Core.Path.{◌∙◌, ap}
 use native.Mathlib.Omega.{arith}
 use lib.Dec.{eqb}
-use borrow.Author.Rules.{rules}
 use Rattle.layout.specs.Built.{Built}
 use Rattle.layout.specs.Headers.{mode_bits, header_bytes_of}
 use Rattle.reader.proofs.Openings.{fq_few, br_few}

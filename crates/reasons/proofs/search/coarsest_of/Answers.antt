@@ -1,7 +1,6 @@
 -- `reasons::search::coarsest_of` meets its contract. Assumes nothing.
 use native.Mathlib.Omega.{arith}
 use Rattle.reasons.proofs.Searches.{band_inside, coarsest_there, coarsest_none}
-use borrow.Author.Rules.{rules}
 use Rattle.reasons.proofs.search.coarsest_of.Goals as goal
 
 pub lowest_precinct-p-requires : goal.lowest_precinct-p-requires

@@ -1,7 +1,6 @@
 -- `reasons::search::holds_with` meets its contract. Assumes nothing.
 use mathlib.Core.Path.{sym, ◌∙◌}
 use mathlib.Core.Bool.{◌&&◌}
-use borrow.Author.Rules.{rules}
 use lib.Dec.{eqb}
 use Rattle.packets.specs.Precincts.{T}
 use Rattle.reasons.proofs.search.holds_with.Goals as goal

@@ -1,14 +1,11 @@
 -- `reasons::search::largest_of` meets its contract. Invariant: the largest of the bands before. Assumes nothing.
 use Prim.Native.Nat.{ℕ, ◌%◌, ◌-◌, ◌≤◌}
-use mathlib.Core.Path.{◌≡◌, refl, ap, ◌∙◌}
+use mathlib.Core.Path.{◌≡◌}
 use mathlib.Core.Bool.{cond}
 use mathlib.Core.List.{List}
-use native.Mathlib.Omega.{arith}
 use lib.Dec.{eqb}
 use lib.ListN.{get_or}
 use Rattle.layout.specs.Precincts.{largest}
-use Rattle.layout.proofs.Columns.{largest_next}
-use borrow.Author.Rules.{rules}
 use Rattle.reasons.proofs.search.largest_of.Given as goal
 
 abbrev pub own : ℕ → ℕ → List ℕ → ℕ → ℕ

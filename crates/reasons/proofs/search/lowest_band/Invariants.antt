@@ -1,12 +1,9 @@
 -- `reasons::search::lowest_band` meets its contract. Invariant: no band before has passed. Assumes nothing.
 use Prim.Native.Nat.{◌%◌, ◌-◌, ◌≤◌}
-use mathlib.Core.Path.{sym, ◌∙◌}
 use mathlib.Core.Bool.{◌&&◌}
-use native.Mathlib.Omega.{arith}
 use lib.Dec.{eqb}
 use lib.ListN.{get_or}
-use Rattle.loops.proofs.Lowest.{Passed, search_begins, search_next, search_stops, search_ends}
-use borrow.Author.Rules.{rules}
+use Rattle.loops.proofs.Lowest.{Passed}
 use Rattle.reasons.proofs.search.lowest_band.Given as goal
 
 abbrev pub invariant-loop-b : goal.invariant-loop-b

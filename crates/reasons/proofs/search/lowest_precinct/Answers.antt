@@ -1,26 +1,22 @@
 -- `reasons::search::lowest_precinct` meets its contract. Invariant: no precinct before has passed, and the walk stands before the next. Assumes nothing.
-use Prim.Native.Nat.{ℕ, ◌-◌, ◌≤◌, ◌<◌}
+use Prim.Native.Nat.{◌<◌}
 use mathlib.Core.Path.{◌≡◌, sym, ap, ◌∙◌}
-use mathlib.Core.Bool.{Bool, ◌&&◌}
-use mathlib.Core.List.{List}
+use mathlib.Core.Bool.{◌&&◌}
 use native.Mathlib.Omega.{arith}
 use lib.Dec.{eqb}
-use Rattle.packets.specs.declared.Setting.{Setting}
 use Rattle.packets.specs.declared.Precinct.{Precinct}
 use Rattle.packets.specs.Precincts.{T}
 use Rattle.slices.specs.Precinct.{holds}
-use Rattle.reasons.specs.Coarsest.{per_slice, all, precinct_of, held_by, truncation_of}
-use Rattle.loops.proofs.Lowest.{Passed, search_begins, search_next, search_stops, search_ends}
+use Rattle.reasons.specs.Coarsest.{per_slice, all, precinct_of}
+use Rattle.loops.proofs.Lowest.{search_begins, search_next, search_stops, search_ends}
 use Rattle.reasons.proofs.Numbers.{per_slice_some, slice_below, number_below}
 use Rattle.reasons.proofs.LowestBand.{row_below}
-use Rattle.reasons.proofs.Steps.{stands_at, stands_first, stands_inside, head_inside, precinct_ends, head_found, precinct_seen}
-use borrow.Author.Rules.{rules}
+use Rattle.reasons.proofs.Steps.{stands_first, stands_inside, head_inside, precinct_ends, head_found, precinct_seen}
 use Rattle.reasons.proofs.search.lowest_precinct.Goals.{After-holds_with, After-precinct_in-q, In-loop-p}
 use Rattle.reasons.proofs.search.lowest_precinct.Invariants.{test}
 use Rattle.reasons.proofs.search.lowest_precinct.Goals as goal
 
 -- ---- the turn
-
 
 size_is : (c : In-loop-p) → c.slice_size-size.result ≡ per_slice c.args.c.shape
 size_is c = c.slice_size-size.ensures
@@ -44,18 +40,16 @@ tested : (c : After-holds_with) →
 tested c =
     let a = c.args in
     let here : c.precinct_in-q.result ≡ precinct_of a.s.now a.c a.at c.loop-p.p =
-        precinct_seen a.s.now a.c a.at c.requires.0 c.loop-p.p c.slice_size-size.ensures c.loop-p.invariant.1 c.past_header.ensures c.precinct_in-q.ensures.is in
+    precinct_seen a.s.now a.c a.at c.requires.0 c.loop-p.p c.slice_size-size.ensures c.loop-p.invariant.1 c.past_header.ensures c.precinct_in-q.ensures.is in
     c.holds_with.ensures ∙ (λ i. holds a.c (here i) a.b && eqb (T a.c (here i) a.b) a.top)
 
 -- ---- what is asked
-
 
 divides : (c : In-loop-p) → 0 < c.slice_size-size.result
 divides c =
     omega (arith, size_is c, per_slice_some c.args.c.shape c.requires.0.settled.shape)
 
 -- ---- what is answered
-
 
 pub precinct_count-count-requires : goal.precinct_count-count-requires
 precinct_count-count-requires c = c.requires.0.settled.shape

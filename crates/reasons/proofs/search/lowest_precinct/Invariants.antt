@@ -1,20 +1,13 @@
 -- `reasons::search::lowest_precinct` meets its contract. Invariant: no precinct before has passed, and the walk stands before the next. Assumes nothing.
-use Prim.Native.Nat.{ℕ, ◌-◌, ◌≤◌, ◌<◌}
-use mathlib.Core.Path.{◌≡◌, sym, ap, ◌∙◌}
+use Prim.Native.Nat.{ℕ, ◌-◌, ◌≤◌}
+use mathlib.Core.Path.{◌≡◌}
 use mathlib.Core.Bool.{Bool, ◌&&◌}
 use mathlib.Core.List.{List}
-use native.Mathlib.Omega.{arith}
 use lib.Dec.{eqb}
 use Rattle.packets.specs.declared.Setting.{Setting}
-use Rattle.packets.specs.declared.Precinct.{Precinct}
-use Rattle.packets.specs.Precincts.{T}
-use Rattle.slices.specs.Precinct.{holds}
-use Rattle.reasons.specs.Coarsest.{per_slice, all, precinct_of, held_by, truncation_of}
-use Rattle.loops.proofs.Lowest.{Passed, search_begins, search_next, search_stops, search_ends}
-use Rattle.reasons.proofs.Numbers.{per_slice_some, slice_below, number_below}
-use Rattle.reasons.proofs.LowestBand.{row_below}
-use Rattle.reasons.proofs.Steps.{stands_at, stands_first, stands_inside, head_inside, precinct_ends, head_found, precinct_seen}
-use borrow.Author.Rules.{rules}
+use Rattle.reasons.specs.Coarsest.{held_by, truncation_of}
+use Rattle.loops.proofs.Lowest.{Passed}
+use Rattle.reasons.proofs.Steps.{stands_at}
 use Rattle.reasons.proofs.search.lowest_precinct.Given as goal
 
 -- the test of precinct p

@@ -1,5 +1,4 @@
 -- `reasons::search::own_top` meets its contract. Assumes nothing.
-use borrow.Author.Rules.{rules}
 use borrow.Author.Tests.{eq-eqb, ne_eqb}
 use Rattle.reasons.proofs.search.own_top.Goals as goal
 

@@ -1,5 +1,4 @@
 -- `reasons::search::past_header` meets its contract. Assumes nothing.
-use borrow.Author.Rules.{rules}
 use borrow.Author.Tests.{eq-eqb, ne_eqb}
 use Rattle.reasons.proofs.search.past_header.Goals as goal
 

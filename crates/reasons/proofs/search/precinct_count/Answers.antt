@@ -2,7 +2,6 @@
 use Prim.Native.Nat.{◌*◌, ◌≤◌}
 use native.Mathlib.Nat.{mul-le-mul}
 use native.Mathlib.Omega.{arith}
-use borrow.Author.Rules.{rules}
 use Rattle.reasons.proofs.search.precinct_count.Goals.{After-precinct_rows-rows}
 use Rattle.reasons.proofs.search.precinct_count.Goals as goal
 

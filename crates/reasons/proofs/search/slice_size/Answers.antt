@@ -2,7 +2,6 @@
 use Prim.Native.Nat.{◌*◌, ◌≤◌, ◌^◌}
 use native.Mathlib.Nat.{mul-le-mul}
 use native.Mathlib.Omega.{arith}
-use borrow.Author.Rules.{rules}
 use Rattle.reasons.proofs.search.slice_size.Goals.{After-precinct_columns-columns}
 use Rattle.reasons.proofs.search.slice_size.Goals as goal
 

@@ -2,7 +2,6 @@
 use Prim.Native.Nat.{◌*◌, ◌≤◌}
 use native.Mathlib.Nat.{mul-le-mul}
 use native.Mathlib.Omega.{arith}
-use borrow.Author.Rules.{rules}
 use Rattle.segments.proofs.components.column_unit.Goals.{After-power}
 use Rattle.segments.proofs.components.column_unit.Goals as goal
 

@@ -2,7 +2,6 @@
 use mathlib.Core.List.{◌++◌}
 use Rattle.rows.proofs.Tables.{joined}
 use Rattle.segments.specs.Components.{depth_checks, across_checks, down_checks}
-use borrow.Author.Rules.{rules}
 use Rattle.segments.proofs.components.component_row.Goals as goal
 
 pub returns : goal.returns

@@ -1,11 +1,9 @@
 -- `segments::components::components_row`: the loop's verdict is that of the components passed. Assumes nothing.
-use Prim.Native.Nat.{◌≤◌, ◌-◌}
 use mathlib.Core.Path.{◌≡◌, ◌∙◌}
 use native.Mathlib.Omega.{arith}
 use Rattle.rows.specs.Rows.{first, each}
 use Rattle.rows.proofs.Tables.{each_none, each_more}
 use Rattle.segments.specs.Components.{component_checks}
-use borrow.Author.Rules.{rules}
 use Rattle.segments.proofs.components.components_row.Goals as goal
 
 pub loop-c-init : goal.loop-c-init

@@ -1,6 +1,5 @@
 -- `segments::components::depth_row`: the table, with the value that is read and the range that depends on Fq. Assumes nothing.
 use mathlib.Core.Path.{◌∙◌}
-use borrow.Author.Rules.{rules}
 use Rattle.segments.proofs.components.depth_row.Goals as goal
 
 pub returns : goal.returns

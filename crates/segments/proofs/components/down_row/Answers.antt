@@ -7,7 +7,6 @@ use Rattle.rows.proofs.Tables.{joined}
 use Rattle.layout.specs.Bands.{samples_of, levels_of}
 use Rattle.segments.specs.Components.{sy_at, sampling_place, filter_checks, sy_checks}
 use Rattle.segments.proofs.NumberLaws.{ceil_le}
-use borrow.Author.Rules.{rules}
 use Rattle.segments.proofs.components.down_row.Goals as goal
 
 pub ceil-samples-requires : goal.ceil-samples-requires

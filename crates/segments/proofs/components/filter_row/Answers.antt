@@ -1,11 +1,9 @@
 -- `segments::components::filter_row`: the loop's verdict is that of the levels passed. Assumes nothing.
-use Prim.Native.Nat.{◌≤◌, ◌-◌}
 use mathlib.Core.Path.{◌≡◌, ◌∙◌}
 use native.Mathlib.Omega.{arith}
 use Rattle.rows.specs.Rows.{first}
 use Rattle.rows.proofs.Tables.{each_none, each_more}
 use Rattle.segments.specs.Components.{level_checks, filter_checks}
-use borrow.Author.Rules.{rules}
 use Rattle.segments.proofs.components.filter_row.Goals as goal
 
 pub loop-d-init : goal.loop-d-init

@@ -2,7 +2,6 @@
 use Prim.Native.Nat.{◌*◌}
 use native.Mathlib.Nat.{mul-le-mul}
 use native.Mathlib.Omega.{arith}
-use borrow.Author.Rules.{rules}
 use Rattle.segments.proofs.components.last_column.Goals as goal
 
 pub overflow_mul-h-2 : goal.overflow_mul-h-2

@@ -4,7 +4,6 @@ use mathlib.Core.Path.{◌∙◌}
 use native.Mathlib.Omega.{arith}
 use Rattle.rows.specs.Rows.{check, ample, first}
 use Rattle.rows.specs.declared.Row.TheVariants.{Lacking}
-use borrow.Author.Rules.{rules}
 use Rattle.segments.proofs.components.level_row.Goals as goal
 
 pub low_size-requires : goal.low_size-requires

@@ -1,7 +1,6 @@
 -- `segments::components::sx_at`: the first four bits of the byte. Assumes nothing.
 use mathlib.Core.Path.{refl}
 use Rattle.bits.proofs.Laws.{is_first}
-use borrow.Author.Rules.{rules}
 use Rattle.segments.proofs.components.sx_at.Goals as goal
 
 pub returns : goal.returns

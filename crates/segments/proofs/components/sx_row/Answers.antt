@@ -2,7 +2,6 @@
 use Prim.Native.Nat.{◌*◌, ◌^◌}
 use mathlib.Core.Path.{◌∙◌}
 use native.Mathlib.Nat.{mul_assoc}
-use borrow.Author.Rules.{rules}
 use Rattle.segments.proofs.components.sx_row.Goals as goal
 
 pub returns : goal.returns

@@ -1,7 +1,6 @@
 -- `segments::components::sy_at`: the last four bits of the byte. Assumes nothing.
 use mathlib.Core.Path.{refl}
 use Rattle.bits.proofs.Laws.{is_last}
-use borrow.Author.Rules.{rules}
 use Rattle.segments.proofs.components.sy_at.Goals as goal
 
 pub returns : goal.returns

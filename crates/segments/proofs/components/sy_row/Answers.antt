@@ -1,7 +1,6 @@
 -- `segments::components::sy_row`: the table, with the values that are read and the ranges that depend on Cpih and NLy. Assumes nothing.
 use mathlib.Core.Path.{◌∙◌}
 use native.Mathlib.Omega.{arith}
-use borrow.Author.Rules.{rules}
 use Rattle.segments.proofs.components.sy_row.Goals as goal
 
 pub power-levels-requires : goal.power-levels-requires

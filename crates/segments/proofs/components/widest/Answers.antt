@@ -1,10 +1,9 @@
 -- `segments::components::widest`: the loop holds the greatest sx of the components passed. Assumes nothing.
-use Prim.Native.Nat.{◌≤◌, ◌<◌, ◌-◌, max}
+use Prim.Native.Nat.{max}
 use mathlib.Core.Path.{◌≡◌, refl, ◌∙◌}
 use native.Mathlib.Numerals.{add-one}
 use native.Mathlib.Omega.{arith}
 use Rattle.segments.specs.Components.{widest}
-use borrow.Author.Rules.{rules}
 use Rattle.segments.proofs.components.widest.Goals as goal
 
 pub loop-c-init : goal.loop-c-init

@@ -1,10 +1,7 @@
 -- `segments::components::widest`: the loop holds the greatest sx of the components passed. Assumes nothing.
-use Prim.Native.Nat.{◌≤◌, ◌<◌, ◌-◌, max}
-use mathlib.Core.Path.{◌≡◌, refl, ◌∙◌}
-use native.Mathlib.Numerals.{add-one}
-use native.Mathlib.Omega.{arith}
+use Prim.Native.Nat.{◌≤◌, ◌<◌, ◌-◌}
+use mathlib.Core.Path.{◌≡◌}
 use Rattle.segments.specs.Components.{widest}
-use borrow.Author.Rules.{rules}
 use Rattle.segments.proofs.components.widest.Given as goal
 
 abbrev pub invariant-loop-c : goal.invariant-loop-c

@@ -1,7 +1,6 @@
 -- `segments::numbers::ceil`: and for b = 0 a law. Assumes nothing.
 use mathlib.Core.Path.{sym}
 use native.Mathlib.Nat.{div-zero}
-use borrow.Author.Rules.{rules}
 use Rattle.segments.proofs.numbers.ceil.Goals as goal
 
 pub returns-then-b-eq0 : goal.returns-then-b-eq0

@@ -1,7 +1,6 @@
 -- `segments::numbers::remainder`: and for b = 0 a law. Assumes nothing.
 use mathlib.Core.Path.{sym}
 use native.Mathlib.Nat.{mod-zero}
-use borrow.Author.Rules.{rules}
 use Rattle.segments.proofs.numbers.remainder.Goals as goal
 
 pub returns-then-b-eq0 : goal.returns-then-b-eq0

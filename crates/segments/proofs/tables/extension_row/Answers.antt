@@ -10,7 +10,6 @@ use Rattle.rows.specs.declared.Row.TheVariants.{Value}
 use Rattle.rows.proofs.Tables.{joined}
 use Rattle.picture.specs.Segment.{length_checks}
 use Rattle.segments.specs.Segments.{type_at}
-use borrow.Author.Rules.{rules}
 use Rattle.segments.proofs.tables.extension_row.Goals as goal
 
 pub returns : goal.returns

@@ -1,5 +1,5 @@
 -- `segments::tables::full_tail`: the loop holds the tail of the components passed. Assumes nothing.
-use Prim.Native.Nat.{◌≤◌, ◌-◌, ◌+◌}
+use Prim.Native.Nat.{◌+◌}
 use mathlib.Core.Bool.{cond, ◌&&◌}
 use mathlib.Core.Path.{◌≡◌, refl, ◌∙◌}
 use native.Mathlib.Numerals.{add-one}
@@ -7,7 +7,6 @@ use native.Mathlib.Omega.{arith}
 use lib.Dec.{eqb}
 use Rattle.segments.specs.Segments.{full_tail}
 use Rattle.segments.proofs.NumberLaws.{cond_le}
-use borrow.Author.Rules.{rules}
 use Rattle.segments.proofs.tables.full_tail.Goals as goal
 
 pub loop-c-init : goal.loop-c-init

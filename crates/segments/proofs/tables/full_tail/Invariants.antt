@@ -1,13 +1,7 @@
 -- `segments::tables::full_tail`: the loop holds the tail of the components passed. Assumes nothing.
-use Prim.Native.Nat.{◌≤◌, ◌-◌, ◌+◌}
-use mathlib.Core.Bool.{cond, ◌&&◌}
-use mathlib.Core.Path.{◌≡◌, refl, ◌∙◌}
-use native.Mathlib.Numerals.{add-one}
-use native.Mathlib.Omega.{arith}
-use lib.Dec.{eqb}
+use Prim.Native.Nat.{◌≤◌, ◌-◌}
+use mathlib.Core.Path.{◌≡◌}
 use Rattle.segments.specs.Segments.{full_tail}
-use Rattle.segments.proofs.NumberLaws.{cond_le}
-use borrow.Author.Rules.{rules}
 use Rattle.segments.proofs.tables.full_tail.Given as goal
 
 abbrev pub invariant-loop-c : goal.invariant-loop-c

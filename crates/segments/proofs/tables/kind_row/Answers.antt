@@ -2,7 +2,6 @@
 use mathlib.Core.Path.{sym, ◌∙◌}
 use Rattle.rows.specs.Rows.{first}
 use Rattle.segments.specs.Segments.{checks_of}
-use borrow.Author.Rules.{rules}
 use Rattle.segments.proofs.tables.kind_row.Goals as goal
 
 pub returns-in-Components : goal.returns-in-Components

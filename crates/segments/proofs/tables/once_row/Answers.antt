@@ -7,7 +7,6 @@ use lib.Dec.{eqb, lit≤}
 use Rattle.rows.specs.Rows.{check, first}
 use Rattle.rows.specs.declared.Row.TheVariants.{Marker}
 use Rattle.segments.proofs.NumberLaws.{cond_le}
-use borrow.Author.Rules.{rules}
 use Rattle.segments.proofs.tables.once_row.Goals as goal
 
 pub overflow_add-count : goal.overflow_add-count

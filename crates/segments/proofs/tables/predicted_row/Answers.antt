@@ -2,7 +2,6 @@
 use Rattle.rows.specs.declared.Field.TheVariants.{Sli}
 use Rattle.rows.proofs.Tables.{joined}
 use Rattle.segments.specs.Segments.{slice_checks, unbuilt_checks}
-use borrow.Author.Rules.{rules}
 use Rattle.segments.proofs.tables.predicted_row.Goals as goal
 
 pub returns : goal.returns

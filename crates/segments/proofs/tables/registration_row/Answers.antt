@@ -4,7 +4,6 @@ use Rattle.rows.specs.declared.Field.TheVariants.{Crg, Lcrg}
 use Rattle.rows.proofs.Tables.{joined}
 use Rattle.picture.specs.Segment.{length_checks}
 use Rattle.segments.specs.Segments.{once_checks}
-use borrow.Author.Rules.{rules}
 use Rattle.segments.proofs.tables.registration_row.Goals as goal
 
 pub returns : goal.returns

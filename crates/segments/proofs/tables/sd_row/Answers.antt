@@ -1,6 +1,5 @@
 -- `segments::tables::sd_row`: the table, with the value and the range that are read. Assumes nothing.
 use mathlib.Core.Path.{◌∙◌}
-use borrow.Author.Rules.{rules}
 use Rattle.segments.proofs.tables.sd_row.Goals as goal
 
 pub returns : goal.returns

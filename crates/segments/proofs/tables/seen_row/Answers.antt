@@ -2,7 +2,6 @@
 use mathlib.Core.List.{[], ◌∷◌}
 use mathlib.Core.Path.{◌∙◌}
 use Rattle.rows.specs.Rows.{check, first}
-use borrow.Author.Rules.{rules}
 use Rattle.segments.proofs.tables.seen_row.Goals as goal
 
 pub returns : goal.returns

@@ -3,7 +3,6 @@ use mathlib.Core.Path.{◌∙◌}
 use Rattle.rows.specs.Rows.{first}
 use Rattle.rows.proofs.Tables.{joined}
 use Rattle.segments.specs.Segments.{kind_of, head_checks, checks_of}
-use borrow.Author.Rules.{rules}
 use Rattle.segments.proofs.tables.segment_row.Goals as goal
 
 pub returns : goal.returns

@@ -3,7 +3,6 @@ use Rattle.rows.specs.declared.Field.TheVariants.{Cdt, Wgt}
 use Rattle.rows.specs.declared.Row.TheVariants.{Marker}
 use Rattle.rows.proofs.Tables.{joined}
 use Rattle.segments.specs.Segments.{seen_checks}
-use borrow.Author.Rules.{rules}
 use Rattle.segments.proofs.tables.slice_row.Goals as goal
 
 pub returns : goal.returns

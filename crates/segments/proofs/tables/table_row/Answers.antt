@@ -6,7 +6,6 @@ use Rattle.rows.proofs.Tables.{joined}
 use Rattle.picture.specs.Segment.{length_checks}
 use Rattle.segments.specs.Components.{components_checks}
 use Rattle.segments.specs.Segments.{once_checks}
-use borrow.Author.Rules.{rules}
 use Rattle.segments.proofs.tables.table_row.Goals as goal
 
 pub returns : goal.returns

@@ -11,7 +11,6 @@ use Rattle.rows.proofs.Tables.{joined}
 use Rattle.picture.specs.Segment.{length_checks}
 use Rattle.segments.specs.Segments.{counted, most_cwd, sd_checks}
 use Rattle.segments.proofs.NumberLaws.{cond_le}
-use borrow.Author.Rules.{rules}
 use Rattle.segments.proofs.tables.undecomposed_row.Goals as goal
 
 pub overflow_add-found : goal.overflow_add-found

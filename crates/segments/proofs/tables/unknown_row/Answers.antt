@@ -1,6 +1,5 @@
 -- `segments::tables::unknown_row`: the table, with the range that depends on the marker. Assumes nothing.
 use mathlib.Core.Path.{◌∙◌}
-use borrow.Author.Rules.{rules}
 use Rattle.segments.proofs.tables.unknown_row.Goals as goal
 
 pub returns : goal.returns

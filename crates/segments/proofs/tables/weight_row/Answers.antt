@@ -9,7 +9,6 @@ use Rattle.rows.proofs.Tables.{joined}
 use Rattle.picture.specs.Segment.{length_checks}
 use Rattle.segments.specs.Segments.{once_checks, seen_checks}
 use Rattle.segments.specs.Weights.{bands_in, gain_checks}
-use borrow.Author.Rules.{rules}
 use Rattle.segments.proofs.tables.weight_row.Goals as goal
 
 pub returns : goal.returns

@@ -4,7 +4,6 @@ use mathlib.Core.Path.{◌≡◌}
 use native.Mathlib.Omega.{arith}
 use Rattle.segments.specs.Bands.{bands}
 use Rattle.segments.proofs.BandLaws.{bands_few}
-use borrow.Author.Rules.{rules}
 use Rattle.segments.proofs.weights.band_count.Goals as goal
 
 pub overflow_mul-result : goal.overflow_mul-result

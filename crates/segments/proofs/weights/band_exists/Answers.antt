@@ -5,7 +5,6 @@ use Rattle.layout.specs.Bands.{has_first_line}
 use Rattle.layout.specs.Sizes.{SmallFilter}
 use Rattle.layout.proofs.Filters.{filter_small, down_most}
 use Rattle.segments.proofs.BandLaws.{band_component, band_type}
-use borrow.Author.Rules.{rules}
 use Rattle.segments.proofs.weights.band_exists.Goals as goal
 
 pub filter_type-f-requires : goal.filter_type-f-requires

@@ -1,5 +1,4 @@
 -- `segments::weights::existing_bands`: the loop counts the existing bands among those passed. Assumes nothing.
-use Prim.Native.Nat.{◌≤◌, ◌-◌}
 use mathlib.Core.Bool.{cond}
 use mathlib.Core.Path.{◌≡◌, refl, ◌∙◌}
 use native.Mathlib.Omega.{arith}
@@ -8,7 +7,6 @@ use Rattle.segments.specs.Bands.{bands, existing}
 use Rattle.segments.specs.Weights.{band_in}
 use Rattle.segments.proofs.BandLaws.{existing_more}
 use Rattle.segments.proofs.NumberLaws.{cond_le}
-use borrow.Author.Rules.{rules}
 use Rattle.segments.proofs.weights.existing_bands.Goals as goal
 
 pub loop-b-init : goal.loop-b-init

@@ -1,14 +1,8 @@
 -- `segments::weights::existing_bands`: the loop counts the existing bands among those passed. Assumes nothing.
 use Prim.Native.Nat.{◌≤◌, ◌-◌}
-use mathlib.Core.Bool.{cond}
-use mathlib.Core.Path.{◌≡◌, refl, ◌∙◌}
-use native.Mathlib.Omega.{arith}
-use lib.Dec.{lit≤}
-use Rattle.segments.specs.Bands.{bands, existing}
+use mathlib.Core.Path.{◌≡◌}
+use Rattle.segments.specs.Bands.{existing}
 use Rattle.segments.specs.Weights.{band_in}
-use Rattle.segments.proofs.BandLaws.{existing_more}
-use Rattle.segments.proofs.NumberLaws.{cond_le}
-use borrow.Author.Rules.{rules}
 use Rattle.segments.proofs.weights.existing_bands.Given as goal
 
 abbrev pub invariant-loop-b : goal.invariant-loop-b

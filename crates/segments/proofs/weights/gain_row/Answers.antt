@@ -5,7 +5,6 @@ use mathlib.Core.Path.{◌∙◌}
 use Rattle.rows.specs.Rows.{check, first}
 use Rattle.rows.specs.declared.Field.TheVariants.{G}
 use Rattle.rows.specs.declared.Row.TheVariants.{Value}
-use borrow.Author.Rules.{rules}
 use Rattle.segments.proofs.weights.gain_row.Goals as goal
 
 pub returns : goal.returns

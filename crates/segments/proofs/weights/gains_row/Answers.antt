@@ -1,11 +1,9 @@
 -- `segments::weights::gains_row`: the loop's verdict is that of the gains passed. Assumes nothing.
-use Prim.Native.Nat.{◌≤◌, ◌-◌}
 use mathlib.Core.Path.{◌≡◌, ◌∙◌}
 use native.Mathlib.Omega.{arith}
 use Rattle.rows.specs.Rows.{first}
 use Rattle.rows.proofs.Tables.{each_none, each_more}
 use Rattle.segments.specs.Weights.{gain_row, gain_checks}
-use borrow.Author.Rules.{rules}
 use Rattle.segments.proofs.weights.gains_row.Goals as goal
 
 pub loop-k-init : goal.loop-k-init

@@ -1,11 +1,8 @@
 -- `segments::weights::gains_row`: the loop's verdict is that of the gains passed. Assumes nothing.
 use Prim.Native.Nat.{◌≤◌, ◌-◌}
-use mathlib.Core.Path.{◌≡◌, ◌∙◌}
-use native.Mathlib.Omega.{arith}
+use mathlib.Core.Path.{◌≡◌}
 use Rattle.rows.specs.Rows.{first}
-use Rattle.rows.proofs.Tables.{each_none, each_more}
-use Rattle.segments.specs.Weights.{gain_row, gain_checks}
-use borrow.Author.Rules.{rules}
+use Rattle.segments.specs.Weights.{gain_checks}
 use Rattle.segments.proofs.weights.gains_row.Given as goal
 
 abbrev pub invariant-loop-k : goal.invariant-loop-k

@@ -1,7 +1,6 @@
 -- `show::modes::read_as` meets its contract, mode by mode. Assumes nothing.
 use mathlib.Core.Path.{refl}
 use Rattle.show.proofs.Shared.{reads_whole, reads_spoilt}
-use borrow.Author.Rules.{rules}
 use Rattle.show.proofs.modes.read_as.Goals as goal
 
 pub returns-in-Plain : goal.returns-in-Plain

@@ -1,6 +1,5 @@
 -- `show::modes::text_as` meets its contract, mode by mode. Assumes nothing.
 use Rattle.show.proofs.Shared.{text_counted}
-use borrow.Author.Rules.{rules}
 use Rattle.show.proofs.modes.text_as.Goals as goal
 
 pub returns-in-Plain : goal.returns-in-Plain

@@ -1,6 +1,5 @@
 -- `show::why::put_check`: its field, and its numbers. Assumes nothing.
 use Rattle.show.proofs.Puts.{put_both}
-use borrow.Author.Rules.{rules}
 use Rattle.show.proofs.why.put_check.Goals as goal
 
 pub returns : goal.returns

@@ -1,12 +1,9 @@
 -- `show::why::put_coarsest`: one by one. Assumes nothing.
-use Prim.Native.Nat.{◌≤◌, ◌-◌}
 use mathlib.Core.Path.{◌≡◌}
 use native.Mathlib.Omega.{arith}
-use Rattle.show.specs.Buffer.{Put}
 use Rattle.show.specs.Why.{coarsest_lines}
 use Rattle.show.proofs.Puts.{put_none, put_length}
 use Rattle.show.proofs.Reasons.{next_line}
-use borrow.Author.Rules.{rules}
 use Rattle.show.proofs.why.put_coarsest.Goals as goal
 
 pub loop-i-init : goal.loop-i-init

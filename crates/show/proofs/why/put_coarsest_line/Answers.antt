@@ -1,6 +1,5 @@
 -- `show::why::put_coarsest_line`: one text after another. Assumes nothing.
 use Rattle.show.proofs.Puts.{put_both}
-use borrow.Author.Rules.{rules}
 use Rattle.show.proofs.why.put_coarsest_line.Goals as goal
 
 pub returns : goal.returns

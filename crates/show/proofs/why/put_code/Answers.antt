@@ -2,7 +2,6 @@
 use mathlib.Core.Path.{◌∙◌}
 use Rattle.show.proofs.Puts.{put_both}
 use Rattle.show.proofs.Reasons.{code_digits}
-use borrow.Author.Rules.{rules}
 use Rattle.show.proofs.why.put_code.Goals as goal
 
 pub returns : goal.returns

@@ -1,7 +1,6 @@
 -- `show::why::put_expected`: by the two tests. Assumes nothing.
 use Rattle.show.proofs.Puts.{put_both}
 use Rattle.show.proofs.Reasons.{one_value, no_most, both_ends}
-use borrow.Author.Rules.{rules}
 use Rattle.show.proofs.why.put_expected.Goals as goal
 
 pub returns-then-least-most : goal.returns-then-least-most

@@ -1,9 +1,6 @@
 -- `show::why::put_field_line`: the letters of the name. Assumes nothing.
-use mathlib.Core.Path.{sym}
-use lib.Seq.{length-take-le}
 use Rattle.show.proofs.Puts.{put_both}
 use Rattle.show.proofs.Reasons.{name_taken, name_fits}
-use borrow.Author.Rules.{rules}
 use Rattle.show.proofs.why.put_field_line.Goals as goal
 
 pub slice_bounds-letters-end : goal.slice_bounds-letters-end

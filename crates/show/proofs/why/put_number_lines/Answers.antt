@@ -1,6 +1,5 @@
 -- `show::why::put_number_lines`: by what they tell. Assumes nothing.
 use Rattle.show.proofs.Puts.{put_both}
-use borrow.Author.Rules.{rules}
 use Rattle.show.proofs.why.put_number_lines.Goals as goal
 
 pub returns-in-Bytes : goal.returns-in-Bytes

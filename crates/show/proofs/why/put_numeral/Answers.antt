@@ -1,5 +1,4 @@
 -- `show::why::put_numeral`: by the test. Assumes nothing.
-use borrow.Author.Rules.{rules}
 use Rattle.show.proofs.why.put_numeral.Goals as goal
 
 pub returns-then-code : goal.returns-then-code

@@ -1,5 +1,4 @@
 -- `show::why::put_reason`: by the verdict. Assumes nothing.
-use borrow.Author.Rules.{rules}
 use Rattle.show.proofs.why.put_reason.Goals as goal
 
 pub returns-in-Fine : goal.returns-in-Fine

@@ -1,5 +1,4 @@
 -- `show::why::why_of`: the text of what is told of the stream. Assumes nothing.
-use borrow.Author.Rules.{rules}
 use Rattle.show.proofs.why.why_of.Goals as goal
 
 pub returns : goal.returns

@@ -1,7 +1,6 @@
 -- `show::why::why_text`: the answer and the reason, at the buffer's beginning. Assumes nothing.
 use Rattle.show.specs.Why.{why_text}
 use Rattle.show.proofs.Puts.{put_both, put_leads}
-use borrow.Author.Rules.{rules}
 use Rattle.show.proofs.why.why_text.Goals as goal
 
 pub returns : goal.returns

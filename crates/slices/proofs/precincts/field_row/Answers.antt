@@ -8,7 +8,6 @@ use Rattle.rows.specs.declared.Field.TheVariants.{Lprc, Precinct as PrecinctFiel
 use Rattle.layout.specs.Headers.{header_bytes_of}
 use Rattle.slices.specs.Precinct.{lprc}
 use Rattle.slices.proofs.PrecinctLaws.{ends_at}
-use borrow.Author.Rules.{rules}
 use Rattle.slices.proofs.precincts.field_row.Goals as goal
 
 pub overflow_sub-size : goal.overflow_sub-size

@@ -2,7 +2,6 @@ use Rattle.rows.specs.Rows.{each}
 use Rattle.rows.proofs.Tables.{joined}
 use Rattle.layout.specs.Bands.{NL}
 use Rattle.slices.specs.Precinct.{field_checks, mode_checks}
-use borrow.Author.Rules.{rules}
 use Rattle.slices.proofs.precincts.header_row.Goals as goal
 
 pub returns : goal.returns

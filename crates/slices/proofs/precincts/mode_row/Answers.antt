@@ -4,7 +4,6 @@ use mathlib.Core.List.{[], ◌∷◌}
 use Rattle.rows.specs.Rows.{check, first}
 use Rattle.rows.specs.declared.Row.TheVariants.{Mode}
 use Rattle.rows.specs.declared.Field.TheVariants.{D}
-use borrow.Author.Rules.{rules}
 use Rattle.slices.proofs.precincts.mode_row.Goals as goal
 
 pub returns-then-exists : goal.returns-then-exists

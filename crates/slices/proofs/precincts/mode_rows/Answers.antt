@@ -1,17 +1,14 @@
-use Prim.Native.Nat.{◌+◌, ◌*◌, ◌-◌, ◌≤◌}
 use mathlib.Core.Path.{◌≡◌, refl, sym, ◌∙◌}
 use mathlib.Core.Bool.{cond}
 use native.Mathlib.Omega.{arith}
 use Rattle.rows.specs.Rows.{first, each}
 use Rattle.rows.proofs.Tables.{each_none, each_more}
-use Rattle.layout.specs.Headers.{mode_bit}
 use Rattle.layout.proofs.Sums.{modes_next}
 use lib.Dec.{lit≤}
 use Rattle.layout.specs.Bands.{NL, band_exists}
 use Rattle.layout.specs.Headers.{modes}
 use Rattle.slices.specs.Precinct.{mode_checks}
 use Rattle.slices.proofs.PrecinctLaws.{top_check, top_checks, top_modes, free_modes, two_if}
-use borrow.Author.Rules.{rules}
 use Rattle.slices.proofs.precincts.mode_rows.Goals as goal
 
 pub returns-then-not-top : goal.returns-then-not-top

@@ -5,7 +5,6 @@ use Rattle.packets.proofs.Laws.{packet_inside}
 use Rattle.pieces.specs.Pieces.{bytes_of, bytes_by}
 use Rattle.slices.proofs.PrecinctLaws.{packet_there, packet_absent}
 use Rattle.slices.proofs.Pieces.{pieces_there, pieces_absent}
-use borrow.Author.Rules.{rules}
 use Rattle.slices.proofs.precincts.packet_turn.Goals as goal
 
 pub any_line-requires : goal.any_line-requires

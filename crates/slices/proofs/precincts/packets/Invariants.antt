@@ -1,18 +1,11 @@
-use Prim.Native.Nat.{◌≤◌, ◌<◌, ◌-◌}
-use mathlib.Core.Path.{◌≡◌, refl, sym, ap, ◌∙◌}
-use native.Mathlib.Omega.{arith}
+use Prim.Native.Nat.{◌≤◌, ◌-◌}
+use mathlib.Core.Path.{◌≡◌}
 use lib.ListN.{length}
-use Rattle.loops.proofs.Laws.{Going, begins, goes_on, stops, ends}
+use Rattle.loops.proofs.Laws.{Going}
 use Rattle.rows.specs.Rows.{first}
-use Rattle.pieces.specs.Pieces.{bytes_of, bytes_by}
-use Rattle.pieces.proofs.Laws.{bytes_end, refused_bytes, adds_up, adds_on, adds_end}
 use Rattle.layout.specs.Slots.{slots}
-use Rattle.slices.specs.Precinct.{body, no_flags, packet_turn, rest_checks, packets}
-use Rattle.slices.specs.Pieces.{precinct_pieces}
-use Rattle.packets.proofs.LinePasses.{standing_still}
-use Rattle.slices.proofs.PrecinctLaws.{ends_at, rest_is, passed_goes, passed_stops, settled}
-use Rattle.slices.proofs.Pieces.{slot_tiles, SlotsAdding, slots_begin}
-use borrow.Author.Rules.{rules}
+use Rattle.slices.specs.Precinct.{body, no_flags, packet_turn, rest_checks}
+use Rattle.slices.proofs.Pieces.{SlotsAdding}
 use Rattle.slices.proofs.precincts.packets.Given as goal
 
 abbrev pub invariant-loop-slot : goal.invariant-loop-slot

@@ -3,7 +3,6 @@ use Rattle.pieces.specs.Pieces.{bytes_of}
 use Rattle.pieces.proofs.Laws.{refused_bytes}
 use Rattle.slices.specs.Precinct.{packets_by}
 use Rattle.slices.specs.Pieces.{precinct_pieces}
-use borrow.Author.Rules.{rules}
 use Rattle.slices.proofs.precincts.packets_by.Goals as goal
 
 pub packets-requires : goal.packets-requires

@@ -1,7 +1,6 @@
 use mathlib.Core.Path.{sym, ◌∙◌}
 use Rattle.slices.specs.Precinct.{packets_by, precinct}
 use Rattle.slices.proofs.PrecinctLaws.{stands}
-use borrow.Author.Rules.{rules}
 use Rattle.slices.proofs.precincts.precinct.Goals as goal
 
 pub packets_by-requires : goal.packets_by-requires

@@ -1,6 +1,5 @@
 use Prim.Native.Nat.{◌+◌}
 use native.Mathlib.Omega.{arith}
-use borrow.Author.Rules.{rules}
 use Rattle.slices.proofs.PrecinctLaws.{head_most}
 use Rattle.slices.proofs.precincts.precinct_at.Goals as goal
 

@@ -5,7 +5,6 @@ use native.Mathlib.Omega.{arith}
 use Rattle.layout.specs.Precincts.{Npx}
 use Rattle.layout.proofs.Columns.{Npx_some, Npy_most}
 use Rattle.slices.proofs.SliceLaws.{row_inside, seen}
-use borrow.Author.Rules.{rules}
 use Rattle.slices.proofs.precincts.precinct_in.Goals.{After-precinct_columns-columns}
 use Rattle.slices.proofs.precincts.precinct_in.Goals as goal
 

@@ -1,10 +1,8 @@
-use Prim.Native.Nat.{◌≤◌, ◌-◌}
 use mathlib.Core.Path.{◌≡◌, refl, ◌∙◌}
 use native.Mathlib.Omega.{arith}
 use Rattle.layout.specs.Bands.{NL}
 use Rattle.slices.specs.Precinct.{raised}
 use Rattle.slices.proofs.PrecinctLaws.{raised_next}
-use borrow.Author.Rules.{rules}
 use Rattle.slices.proofs.tops.raised.Goals as goal
 
 pub loop-b-init : goal.loop-b-init

@@ -1,10 +1,6 @@
 use Prim.Native.Nat.{◌≤◌, ◌-◌}
-use mathlib.Core.Path.{◌≡◌, refl, ◌∙◌}
-use native.Mathlib.Omega.{arith}
-use Rattle.layout.specs.Bands.{NL}
+use mathlib.Core.Path.{◌≡◌}
 use Rattle.slices.specs.Precinct.{raised}
-use Rattle.slices.proofs.PrecinctLaws.{raised_next}
-use borrow.Author.Rules.{rules}
 use Rattle.slices.proofs.tops.raised.Given as goal
 
 abbrev pub invariant-loop-b : goal.invariant-loop-b

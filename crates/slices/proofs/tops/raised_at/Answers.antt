@@ -1,7 +1,6 @@
 use mathlib.Core.Path.{sym, ◌∙◌}
 use native.Mathlib.Omega.{arith}
 use Rattle.slices.proofs.PrecinctLaws.{raised_there, raised_not}
-use borrow.Author.Rules.{rules}
 use Rattle.slices.proofs.tops.raised_at.Goals as goal
 
 pub returns-then-top-t : goal.returns-then-top-t

@@ -1,7 +1,6 @@
 use mathlib.Core.Path.{refl, sym, ◌∙◌}
 use Rattle.slices.specs.Walk.{stepped}
 use Rattle.slices.proofs.PrecinctLaws.{clash}
-use borrow.Author.Rules.{rules}
 use Rattle.slices.proofs.walk.step.Goals as goal
 
 pub returns-in-Fine : goal.returns-in-Fine

@@ -3,7 +3,6 @@ use native.Mathlib.Omega.{arith}
 use Rattle.slices.specs.Walk.{walk_by}
 use Rattle.slices.proofs.PrecinctLaws.{clash, settled}
 use Rattle.slices.proofs.WalkLaws.{walks_still}
-use borrow.Author.Rules.{rules}
 use Rattle.slices.proofs.walk.walk_by.Goals as goal
 
 pub overflow_add-at : goal.overflow_add-at

@@ -1,15 +1,10 @@
-use Prim.Native.Nat.{◌≤◌, ◌-◌}
 use mathlib.Core.Path.{sym, ◌∙◌}
 use native.Mathlib.Omega.{arith}
-use lib.ListN.{length}
-use Rattle.rows.specs.declared.Verdict.TheVariants.{Fine}
-use Rattle.loops.proofs.Laws.{Going, begins, goes_on, stops, ends}
-use Rattle.layout.specs.Precincts.{Np}
+use Rattle.loops.proofs.Laws.{begins, goes_on, stops, ends}
 use Rattle.layout.proofs.Columns.{slices_most}
-use Rattle.slices.specs.Walk.{walk_turn, walk_precincts}
+use Rattle.slices.specs.Walk.{walk_precincts}
 use Rattle.slices.proofs.PrecinctLaws.{clash, settled}
 use Rattle.slices.proofs.WalkLaws.{walk_goes, walk_stops}
-use borrow.Author.Rules.{rules}
 use Rattle.slices.proofs.walk.walk_precincts.Goals as goal
 
 pub precincts_in_slice-count-requires : goal.precincts_in_slice-count-requires

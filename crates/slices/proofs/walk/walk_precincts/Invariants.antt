@@ -1,15 +1,9 @@
 use Prim.Native.Nat.{◌≤◌, ◌-◌}
-use mathlib.Core.Path.{sym, ◌∙◌}
-use native.Mathlib.Omega.{arith}
 use lib.ListN.{length}
 use Rattle.rows.specs.declared.Verdict.TheVariants.{Fine}
-use Rattle.loops.proofs.Laws.{Going, begins, goes_on, stops, ends}
+use Rattle.loops.proofs.Laws.{Going}
 use Rattle.layout.specs.Precincts.{Np}
-use Rattle.layout.proofs.Columns.{slices_most}
-use Rattle.slices.specs.Walk.{walk_turn, walk_precincts}
-use Rattle.slices.proofs.PrecinctLaws.{clash, settled}
-use Rattle.slices.proofs.WalkLaws.{walk_goes, walk_stops}
-use borrow.Author.Rules.{rules}
+use Rattle.slices.specs.Walk.{walk_turn}
 use Rattle.slices.proofs.walk.walk_precincts.Given as goal
 
 abbrev pub invariant-loop-n : goal.invariant-loop-n

@@ -2,7 +2,6 @@ use mathlib.Core.Path.{sym, ◌∙◌}
 use Rattle.slices.specs.Walk.{walk_by, walk_slice}
 use Rattle.slices.proofs.SliceLaws.{header_ends}
 use Rattle.slices.proofs.WalkLaws.{walks_still}
-use borrow.Author.Rules.{rules}
 use Rattle.slices.proofs.walk.walk_slice.Goals as goal
 
 pub walk_by-requires : goal.walk_by-requires

@@ -7,7 +7,6 @@ use Rattle.rows.specs.declared.Row.TheVariants.{Cut, Length}
 use Rattle.rows.specs.declared.Field.TheVariants.{Lprc, Precinct as PrecinctField}
 use Rattle.slices.proofs.PrecinctLaws.{head_most}
 use Rattle.slices.proofs.WalkLaws.{walk_turned}
-use borrow.Author.Rules.{rules}
 use Rattle.slices.proofs.walk.walk_turn.Goals as goal
 
 pub overflow_add-size : goal.overflow_add-size

@@ -1,7 +1,6 @@
 -- `values::words::eight_planes` meets its contract: each sum is at most the whole. Assumes nothing.
 use Prim.Native.Nat.{◌+◌, ◌*◌, ◌/◌, ◌%◌, ◌^◌, ◌≤◌}
 use native.Mathlib.Omega.{arith}
-use borrow.Author.Rules.{rules}
 use lib.ListN.{get_or}
 use Rattle.values.proofs.Lanes.{spread_most, eight_is}
 use Rattle.values.proofs.words.eight_planes.Goals.{Start}

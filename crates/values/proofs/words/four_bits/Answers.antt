@@ -1,7 +1,6 @@
 -- `values::words::four_bits` meets its contract: a part of two bytes. Assumes nothing.
 use Prim.Native.Nat.{◌%◌}
 use native.Mathlib.Omega.{arith}
-use borrow.Author.Rules.{rules}
 use Rattle.bits.proofs.Laws.{is_joined, is_part}
 use Rattle.values.proofs.words.four_bits.Goals as goal
 

@@ -1,6 +1,5 @@
 -- `values::words::nibbles_at` meets its contract: the first bits of the word. Assumes nothing.
 use native.Mathlib.Omega.{arith}
-use borrow.Author.Rules.{rules}
 use Rattle.bits.proofs.Laws.{is_first}
 use Rattle.values.proofs.words.nibbles_at.Goals as goal
 

@@ -2,7 +2,6 @@
 use mathlib.Core.Path.{◌≡◌}
 use Prim.Native.Nat.{◌-◌, ◌/◌, ◌%◌, ◌^◌}
 use native.Mathlib.Omega.{arith}
-use borrow.Author.Rules.{rules}
 use Rattle.whole.proofs.Machine.{back64}
 use Rattle.values.specs.Lanes.{lane, lane_value}
 use Rattle.values.proofs.Lanes.{placed_four}

@@ -1,5 +1,4 @@
 -- `values::words::read_group` meets its contract. Assumes nothing.
-use borrow.Author.Rules.{rules}
 use Rattle.values.proofs.words.read_group.Goals as goal
 
 pub returns-then-fs : goal.returns-then-fs

@@ -2,7 +2,6 @@
 use mathlib.Core.Path.{◌≡◌, refl}
 use Prim.Native.Nat.{◌+◌, ◌*◌, ◌%◌}
 use native.Mathlib.Omega.{arith}
-use borrow.Author.Rules.{rules}
 use Rattle.bits.proofs.Laws.{is_first}
 use Rattle.values.specs.Group.{planes, sign_bits}
 use Rattle.values.proofs.Lanes.{planes_read, lane_read, sign_count, sign_next, side_by_side}

@@ -2,7 +2,6 @@
 use mathlib.Core.Path.{◌≡◌, ap}
 use Prim.Native.Nat.{◌+◌, ◌*◌, ◌/◌, ◌^◌, ◌<◌}
 use native.Mathlib.Omega.{arith}
-use borrow.Author.Rules.{rules}
 use Rattle.values.specs.Lanes.{spread}
 use Rattle.values.proofs.Lanes.{spread_most, spread_none, spread_eight}
 use Rattle.values.proofs.words.sixteen_planes.Goals.{After-eight_planes}

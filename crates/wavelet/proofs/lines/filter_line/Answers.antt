@@ -4,7 +4,6 @@ use Rattle.whole.proofs.Machine.{back64}
 use Rattle.wavelet.specs.Kinds.{steps_of}
 use Rattle.wavelet.proofs.Tame.{tame}
 use Rattle.wavelet.proofs.Running.{first_small, first_is, end_inside, last_small, last_ends, end_room, end_small, end_ends}
-use borrow.Author.Rules.{rules}
 use Rattle.wavelet.proofs.lines.filter_line.Goals as goal
 
 pub overflow_add-high : goal.overflow_add-high

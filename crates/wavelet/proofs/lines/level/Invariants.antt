@@ -1,12 +1,9 @@
 -- `wavelet::lines::level` meets its contract: the invariant is that the run has gone on from what its top left, the measure the rows that are left.
 -- Assumes nothing.
-use mathlib.Core.Path.{◌≡◌, refl}
+use mathlib.Core.Path.{◌≡◌}
 use Prim.Native.Nat.{◌+◌, ◌-◌, ◌%◌, ◌<◌}
-use native.Mathlib.Omega.{arith}
-use borrow.Author.Rules.{rules}
 use Rattle.wavelet.specs.Kinds.{steps_of}
 use Rattle.wavelet.specs.Runs.{Onward}
-use Rattle.wavelet.proofs.Level.{level_ends, onward_starts, onward_next, midway}
 use Rattle.wavelet.proofs.lines.level.Given as goal
 
 abbrev pub invariant-loop-j : goal.invariant-loop-j

@@ -2,7 +2,6 @@
 use mathlib.Core.Path.{◌≡◌}
 use Prim.Native.Nat.{◌+◌}
 use native.Mathlib.Omega.{arith}
-use borrow.Author.Rules.{rules}
 use Rattle.wavelet.proofs.Tame.{tame}
 use Rattle.wavelet.proofs.Level.{above_row, even_ready, close_ready, close_next, last_ready, last_next}
 use Rattle.wavelet.proofs.lines.level_end.Goals as goal

@@ -1,7 +1,6 @@
 -- `wavelet::lines::level_pair` meets its contract. Assumes nothing.
 use Prim.Native.Nat.{◌+◌}
 use native.Mathlib.Omega.{arith}
-use borrow.Author.Rules.{rules}
 use Rattle.wavelet.proofs.Tame.{tame}
 use Rattle.wavelet.proofs.Level.{even_ready, behind_ready, turn_ready, turn_next}
 use Rattle.wavelet.proofs.lines.level_pair.Goals as goal

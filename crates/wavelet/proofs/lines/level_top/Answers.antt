@@ -1,5 +1,4 @@
 -- `wavelet::lines::level_top` meets its contract. Assumes nothing.
-use borrow.Author.Rules.{rules}
 use Rattle.wavelet.proofs.Tame.{tame}
 use Rattle.wavelet.proofs.Level.{top_ready, second_ready, start_ready, start_next}
 use Rattle.wavelet.proofs.lines.level_top.Goals as goal

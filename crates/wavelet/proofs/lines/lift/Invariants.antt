@@ -1,13 +1,8 @@
 -- `wavelet::lines::lift` meets its contract. Assumes nothing.
-use mathlib.Core.Path.{◌≡◌}
 use Prim.Native.Nat.{◌-◌, ◌≤◌}
-use native.Mathlib.Omega.{arith}
 use Rattle.wavelet.specs.Kinds.{steps_of}
 use Rattle.whole.specs.Cells.{OntoLine}
 use Rattle.wavelet.specs.Runs.{lifted}
-use Rattle.whole.proofs.Filling.{onto_none}
-use Rattle.wavelet.proofs.Lifting.{turn_inside, turn_small, turn_step}
-use borrow.Author.Rules.{rules}
 use Rattle.wavelet.proofs.lines.lift.Given as goal
 
 abbrev pub invariant-loop-j : goal.invariant-loop-j

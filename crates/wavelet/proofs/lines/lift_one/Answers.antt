@@ -1,6 +1,5 @@
 -- `wavelet::lines::lift_one` meets its contract. Assumes nothing.
 use Rattle.whole.proofs.Machine.{back64}
-use borrow.Author.Rules.{rules}
 use Rattle.wavelet.proofs.lines.lift_one.Goals as goal
 
 pub returns : goal.returns

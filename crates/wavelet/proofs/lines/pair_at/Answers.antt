@@ -4,7 +4,6 @@ use mir.ValLaws.{to_z-of_z}
 use Rattle.whole.proofs.Machine.{back64}
 use Rattle.wavelet.proofs.Tame.{tame}
 use Rattle.wavelet.proofs.Pairs.{pair_onto, even_small, odd_small}
-use borrow.Author.Rules.{rules}
 use Rattle.wavelet.proofs.lines.pair_at.Goals as goal
 
 pub even_of-even-requires : goal.even_of-even-requires

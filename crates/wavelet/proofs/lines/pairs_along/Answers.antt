@@ -1,14 +1,9 @@
 -- `wavelet::lines::pairs_along` meets its contract. Assumes nothing.
-use Prim.Native.Nat.{◌-◌}
 use native.Mathlib.Omega.{arith}
-use mir.Syntax.{w64}
-use mir.Val.{to_z}
 use mir.ValLaws.{to_z-of_z}
 use Rattle.whole.proofs.Machine.{back64}
-use Rattle.wavelet.specs.Kinds.{steps_of}
 use Rattle.wavelet.proofs.Tame.{tame}
-use Rattle.wavelet.proofs.Running.{Running, running_starts, running_inside, running_small, running_step, running_ends}
-use borrow.Author.Rules.{rules}
+use Rattle.wavelet.proofs.Running.{running_starts, running_inside, running_small, running_step, running_ends}
 use Rattle.wavelet.proofs.lines.pairs_along.Goals as goal
 
 pub overflow_add-high : goal.overflow_add-high

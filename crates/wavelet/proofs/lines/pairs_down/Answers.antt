@@ -1,11 +1,9 @@
 -- `wavelet::lines::pairs_down` meets its contract. Assumes nothing.
 use mathlib.Core.Path.{◌≡◌}
-use Prim.Native.Nat.{◌-◌, ◌≤◌}
 use native.Mathlib.Omega.{arith}
 use Rattle.wavelet.specs.Kinds.{steps_of}
 use Rattle.whole.proofs.Filling.{onto_none}
-use Rattle.wavelet.proofs.Pairs.{PairsDone, pair_inside, pair_ready, pair_step}
-use borrow.Author.Rules.{rules}
+use Rattle.wavelet.proofs.Pairs.{pair_inside, pair_ready, pair_step}
 use Rattle.wavelet.proofs.lines.pairs_down.Goals as goal
 
 pub loop-j-init : goal.loop-j-init

@@ -1,6 +1,5 @@
 -- `wavelet::lines::pairs_of_line` meets its contract. Assumes nothing.
 use mir.ValLaws.{to_z-of_z}
-use borrow.Author.Rules.{rules}
 use Rattle.wavelet.proofs.lines.pairs_of_line.Goals as goal
 
 pub pairs_along-requires : goal.pairs_along-requires

@@ -1,5 +1,4 @@
 -- `wavelet::lines::pairs_of_rows` meets its contract. Assumes nothing.
-use borrow.Author.Rules.{rules}
 use Rattle.wavelet.proofs.lines.pairs_of_rows.Goals as goal
 
 pub pairs_down-requires : goal.pairs_down-requires

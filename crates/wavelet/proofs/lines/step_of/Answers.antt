@@ -3,7 +3,6 @@ use mathlib.Core.Path.{◌∙◌}
 use borrow.Author.Tests.{eq-eqb, ne_eqb}
 use mir.ValLaws.{to_z-of_z}
 use Rattle.whole.proofs.Machine.{back64}
-use borrow.Author.Rules.{rules}
 use Rattle.wavelet.proofs.lines.step_of.Goals as goal
 
 pub returns-then-b-eq0 : goal.returns-then-b-eq0

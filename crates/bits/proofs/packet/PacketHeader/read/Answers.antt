@@ -1,5 +1,4 @@
 -- `bits::packet::PacketHeader::read` meets its contract: it is four steps of a cursor. Assumes nothing.
-use borrow.Author.Rules.{rules}
 use Rattle.bits.proofs.Headers.{is_header}
 use Rattle.bits.proofs.packet.PacketHeader.read.Goals as goal
 

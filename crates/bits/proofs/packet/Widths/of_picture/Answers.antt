@@ -2,7 +2,6 @@
 use Prim.Native.Nat.{◌≤◌}
 use native.Mathlib.Omega.{arith}
 use native.Mathlib.Nat.{mul-le-mul_right}
-use borrow.Author.Rules.{rules}
 use Rattle.bits.proofs.Headers.{widths_of}
 use Rattle.bits.proofs.packet.Widths.of_picture.Goals as goal
 

@@ -1,7 +1,6 @@
 -- `header::header::Header::none`: all is 0. Assumes nothing.
 use mathlib.Core.Bool.{false}
 use lib.ListN.{replicate}
-use borrow.Author.Rules.{rules}
 use Rattle.header.proofs.header.Header.none.Goals as goal
 
 pub returns : goal.returns

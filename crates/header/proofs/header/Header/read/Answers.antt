@@ -1,6 +1,5 @@
 -- `header::header::Header::read`: each part is what its reader answers. Assumes nothing.
 use mathlib.Core.List.{[], ◌∷◌}
-use borrow.Author.Rules.{rules}
 use Rattle.header.proofs.header.Header.read.Goals as goal
 
 pub returns : goal.returns

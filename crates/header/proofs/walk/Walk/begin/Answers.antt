@@ -1,7 +1,6 @@
 -- `header::walk::Walk::begin`: nothing is seen yet. Assumes nothing.
 use mathlib.Core.Bool.{false}
 use Rattle.rows.specs.declared.Verdict.TheVariants.{Fine}
-use borrow.Author.Rules.{rules}
 use Rattle.header.proofs.walk.Walk.begin.Goals as goal
 
 pub returns : goal.returns

@@ -1,5 +1,4 @@
 -- `header::weights::Weights::read`: the loop fills both arrays, and counts the existing bands passed. Assumes nothing.
-use Prim.Native.Nat.{◌≤◌, ◌-◌}
 use mathlib.Core.Bool.{cond}
 use mathlib.Core.Path.{◌≡◌, refl, ◌∙◌}
 use native.Mathlib.Omega.{arith}
@@ -8,9 +7,8 @@ use Rattle.segments.specs.Bands.{existing}
 use Rattle.segments.specs.Weights.{gain_at, priority_at}
 use Rattle.segments.proofs.BandLaws.{existing_more}
 use Rattle.segments.proofs.NumberLaws.{cond_le}
-use Rattle.header.specs.Header.{band_is, gain_of, priority_of}
-use Rattle.whole.proofs.Lists.{Filled, filled_none, filled_more, filled_all}
-use borrow.Author.Rules.{rules}
+use Rattle.header.specs.Header.{band_is}
+use Rattle.whole.proofs.Lists.{filled_none, filled_more, filled_all}
 use Rattle.header.proofs.weights.Weights.read.Goals as goal
 
 pub loop-b-init : goal.loop-b-init

@@ -6,7 +6,6 @@ use Rattle.rows.specs.Rows.{first}
 use Rattle.rows.proofs.Tables.{joined}
 use Rattle.picture.specs.Opening.{start_checks, picture_place, picture_checks}
 use Rattle.picture.specs.Picture.{picture_at}
-use borrow.Author.Rules.{rules}
 use Rattle.picture.proofs.opening.Opening.read.Goals as goal
 
 pub returns : goal.returns

@@ -1,7 +1,6 @@
 -- `picture::picture::Picture::read`: each field is what its reader answers, or a part of the byte that it shares. Assumes nothing.
 use mathlib.Core.Path.{refl}
 use Rattle.bits.proofs.Laws.{is_first, is_last, is_part}
-use borrow.Author.Rules.{rules}
 use Rattle.picture.proofs.picture.Picture.read.Goals as goal
 
 pub returns : goal.returns

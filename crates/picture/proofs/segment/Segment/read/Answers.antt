@@ -1,5 +1,4 @@
 -- `picture::segment::Segment::read`: each part is what its reader answers. Assumes nothing.
-use borrow.Author.Rules.{rules}
 use Rattle.picture.proofs.segment.Segment.read.Goals as goal
 
 pub returns : goal.returns

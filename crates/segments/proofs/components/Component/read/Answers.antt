@@ -1,5 +1,4 @@
 -- `segments::components::Component::read`: each part is what its reader answers. Assumes nothing.
-use borrow.Author.Rules.{rules}
 use Rattle.segments.proofs.components.Component.read.Goals as goal
 
 pub returns : goal.returns
