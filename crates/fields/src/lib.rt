@@ -37,7 +37,7 @@ const LETTERS: [u8; 1332] = *b"SOC start marker\
     marker\
     component tables\
     weights tables\
-    non_linear output segments\
+    non-linear output segments\
     CWD segments\
     colour transform segments\
     component registrations\
@@ -74,7 +74,7 @@ const LETTERS: [u8; 1332] = *b"SOC start marker\
     significance bytes\
     Lcnt count bytes\
     bitplane count\
-    one_bits of a count code\
+    one-bits of a count code\
     Ldat data bytes\
     Lsgn sign bytes\
     bytes behind the last packet\
