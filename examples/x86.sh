@@ -1,5 +1,6 @@
 # Sourced, in the repository's root. The library is built for x86-64: on Arm a cross compiler makes the programs that link it, and an emulator runs them, both
-# from Debian's packages. Sets `compile` and `run`, the beginnings of command lines; `library` builds target/staticlib/libpitchladle.a where it is missing or old.
+# from Debian's packages. Sets `compile` and `run`, the beginnings of command lines; `library` builds crates/pitchladle/out/libpitchladle.a, for every x86-64
+# processor, where it is missing or old.
 . examples/install.sh
 case $(uname -m) in
 x86_64)
@@ -12,8 +13,8 @@ x86_64)
     ;;
 esac
 library() {
-    archive=target/staticlib/libpitchladle.a
-    [ -f "$archive" ] && [ -z "$(find crates -name '*.rt' -newer "$archive")" ] && return
+    archive=crates/pitchladle/out/libpitchladle.a
+    [ -f "$archive" ] && [ -z "$(find crates/*/src -name '*.rt' -newer "$archive")" ] && return
     echo "proving and building the library; the first time this takes some minutes" >&2
-    rt staticlib pitchladle >&2
+    (cd crates/pitchladle && rt lib --cpu x86-64) >&2
 }

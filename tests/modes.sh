@@ -1,5 +1,5 @@
 #!/bin/sh
-# Holds the proved program of the other modes, target/bin/modes, against agreed answers and against `page --modes` on made
+# Holds the proved program of the other modes, crates/modes, against agreed answers and against `page --modes` on made
 # streams. Stops at the first difference. Usage: modes.sh FOLDER [stored | WORD...], where tests/build.sh has put its programs. `stored` compares the
 # agreed answers, other words are for `compare`; without any the script does the first and then `spoilt 300`, `placed 300` and `counted 300`.
 set -eu

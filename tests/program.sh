@@ -1,5 +1,5 @@
 #!/bin/sh
-# Holds the proved page program, target/bin/page, against the independent decoder on made streams. Stops at the first
+# Holds the proved page program, crates/page, against the independent decoder on made streams. Stops at the first
 # difference. Usage: program.sh FOLDER [WORD...], where tests/build.sh has put its programs; the words are for `compare`.
 set -eu
 bin=$(realpath "${1:?"usage: program.sh FOLDER [WORD...]"}")

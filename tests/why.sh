@@ -1,5 +1,5 @@
 #!/bin/sh
-# Holds the proved program that says why a page is refused, target/bin/why, against agreed answers and against `page --why` on made
+# Holds the proved program that says why a page is refused, crates/why, against agreed answers and against `page --why` on made
 # streams. Stops at the first difference. Usage: why.sh FOLDER [stored | WORD...], where tests/build.sh has put its programs. `stored` compares the
 # agreed answers and the names in them with docs/FIELDS.md, other words are for `compare`; without any the script does the first and then `reasons 300`.
 set -eu
