@@ -4,7 +4,7 @@
 usage: python3 tools/snake_names.py [FOLDER]      once, at the top of the repository (or in FOLDER), after /opt/rattle/port/port.py
 
 It rewrites specs/, proofs/, the clauses of src/ (functions of src/ keep their names), and what README and docs/ put between backticks. Names that a library gives, and
-names that Rattle makes (all that stands behind `tie.`), stay. Where two names would fall together in one file, the lemma gets `_lem`, or the name that OTHER has.
+names that Rattle makes (all that stands behind `tie.`), stay. Strings of src/ on one line stay; it ran once, and turned two names in strings of `fields` that are mended by hand since. Where two names would fall together in one file, the lemma gets `_lem`, or the name that OTHER has.
 """
 import collections
 import glob
@@ -127,7 +127,7 @@ def turn_antt(path, to, library):
 
 
 def turn_rt(path, to):
-    """Strings keep what they say, and comments what is not between backticks."""
+    """Strings on one line keep what they say, and comments what is not between backticks."""
     out = []
     for line in read(path).split("\n"):
         m = re.search(r'(^|\s)//', line)

@@ -40,7 +40,7 @@ chmod +x "$scratch/toolchain/bin/clang"
 echo 'fn main() {}' >"$scratch/main.rt"
 all=pitchladle
 while :; do
-    next=$(for crate in $all; do echo "$crate"; sed -n "s/^$crate: *//p" crates.txt; done | tr ' ' '\n' | sort -u)
+    next=$(for crate in $all; do echo "$crate"; sed -n "s/^$crate\( staticlib\)\{0,1\}: *//p" crates.txt; done | tr ' ' '\n' | sort -u)
     [ "$next" != "$all" ] || break
     all=$next
 done

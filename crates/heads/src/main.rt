@@ -2,11 +2,11 @@
 #![tactic(auto)]
 
 use header::header::Header;
-use input::read_full;
+use input::{not_opened, read_full, word};
 use picture::picture::Picture;
 use rows::Verdict;
 use std::fs::Files;
-use std::{env, fs, io};
+use std::{fs, io};
 
 fn print_sizes(rt: &impl Print, h: Picture) -> io::Result<()> {
     print!(rt;
@@ -80,10 +80,10 @@ fn print_stream(rt: &impl Print, name: &str, s: &[u8]) -> io::Result<()> {
 }
 
 // The file of this name, of at most 65,535 bytes. Where it cannot be opened, standard error says so.
-fn print_file(rt: &(impl Files + Print + Eprint), name: &str) -> io::Result<()> {
+fn print_file(rt: &(impl Files + Print + Eprint + AllocGlobal), name: &str) -> io::Result<()> {
     let mut file = match fs::open(rt, name) {
         Ok(file) => file,
-        Err(e) => return eprintln!(rt; "{name}: {e}"),
+        Err(e) => return not_opened(rt, name, e),
     };
     let mut buffer = [0u8; 65536];
     let size = read_full(&mut file, &mut buffer)?;
@@ -95,8 +95,11 @@ fn print_file(rt: &(impl Files + Print + Eprint), name: &str) -> io::Result<()> 
 }
 
 fn main(rt: HostRuntime) -> io::Result<()> {
-    for name in env::args(&rt)?.skip(1) {
-        print_file(&rt, name.as_str())?;
+    for i in 1..usize::MAX {
+        match word(&rt, i)? {
+            Some(name) => print_file(&rt, name.as_str())?,
+            None => return Ok(()),
+        }
     }
     Ok(())
 }

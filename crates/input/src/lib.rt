@@ -1,38 +1,51 @@
-// What the programs read: standard input, or a file, into a lent buffer.
+// What the programs read: standard input, or a file, into a lent buffer, and the words of their command line.
 #![tactic(auto)]
 
-ghost use Rattle.std.specs.Prelude.{◌≢◌, ◌<◌, length, take, IfOk, IfErr};
+ghost use Rattle.std.specs.Prelude.{◌<◌, length, take, IfOk};
 ghost use Rattle.std.specs.Io.{ReadsAtMost};
-ghost use Rattle.std.specs.IoError.{error_kind};
 ghost use Rattle.std.specs.Io.KnownBytes.{Consumes, IsAtEnd};
 
+use std::env::{Env, FillError};
 use std::io;
 use std::io::{ErrorKind, Read};
 
-// Reads until the buffer is full or the input ends, and answers how many bytes that is: they stand at the buffer's start. A read that a signal interrupts is tried
-// again.
+// Reads until the buffer is full or the input ends, and answers how many bytes that is: they stand at the buffer's start.
 pub fn read_full<R: Read>(reader: &mut R, buf: &mut [u8]) -> io::Result<usize>
     ensures in_bounds { ReadsAtMost result buf.new }
     ensures bytes { IfOk result (λ n. Consumes (R.remaining reader.old) (R.remaining reader.new) (take n buf.new)) }
     ensures end { IfOk result (λ n. n < length buf.new → IsAtEnd (R.remaining reader.new)) }
-    ensures retried { IfErr result (λ e. error_kind e ≢ ErrorKind.Interrupted) }
 {
     let mut done = 0;
-    for _ in 0..u64::MAX {
-        if done >= buf.len() {
+    while done < buf.len() {
+        let n = reader.read(&mut buf[done..])?;
+        if n == 0 {
             return Ok(done);
         }
-        match reader.read(&mut buf[done..]) {
-            Ok(0) => return Ok(done),
-            Ok(n) => done += n,
-            Err(e) => {
-                if e.kind() != ErrorKind::Interrupted {
-                    return Err(e);
-                }
-            }
-        }
+        done += n;
     }
-    Err(io::Error::from(ErrorKind::TimedOut))
+    Ok(done)
+}
+
+// Word i of the command line, and none behind the last. One of more than 4,096 bytes counts as the empty word.
+pub fn word(rt: &(impl Env + AllocGlobal), i: usize) -> io::Result<Option<String>> {
+    let mut bytes = [0u8; 4096];
+    match rt.arg(i, &mut bytes) {
+        Ok(n) => {
+            let text = str::from_utf8(&bytes[..n]).map_err(|_| io::Error::from(ErrorKind::InvalidData))?;
+            Ok(Some(String::from_str(rt.alloc(), text)?))
+        }
+        Err(FillError::TooLong) => Ok(Some(String::new(rt.alloc()))),
+        Err(FillError::NotPresent) => Ok(None),
+    }
+}
+
+// Says on standard error why the file of this name was not opened, in the system's words, without the number that an error's text ends with.
+pub fn not_opened(rt: &(impl Eprint + AllocGlobal), name: &str, e: io::Error) -> io::Result<()> {
+    let text = format!(in rt.alloc(); "{e}")?;
+    match text.as_str().rsplit_once(" (os error ") {
+        Some((words, _)) => eprintln!(rt; "{name}: {words}"),
+        None => eprintln!(rt; "{name}: {text}"),
+    }
 }
 
 #[cfg(test)]
@@ -40,7 +53,7 @@ mod tests {
     use super::*;
     use std::test::Fail;
 
-    // Gives a byte at every second read, and is interrupted before it. Read `fails` fails, and from read 9 on nothing is left.
+    // Gives a byte at each of four reads, and then nothing. Read `fails` fails.
     #[derive(Drop)]
     struct Slow {
         reads: u8,
@@ -53,11 +66,8 @@ mod tests {
             if self.reads == self.fails {
                 return Err(io::Error::from(ErrorKind::NotConnected));
             }
-            if self.reads >= 9 || buf.is_empty() {
+            if self.reads >= 5 || buf.is_empty() {
                 return Ok(0);
-            }
-            if self.reads % 2 == 1 {
-                return Err(io::Error::from(ErrorKind::Interrupted));
             }
             buf[0] = self.reads;
             Ok(1)
@@ -69,7 +79,7 @@ mod tests {
         let mut buf = [0u8; 6];
         let n = read_full(&mut Slow { reads: 0, fails: 0 }, &mut buf)?;
         assert_eq!(rt; n, 4);
-        assert_eq!(rt; buf.as_slice(), [2, 4, 6, 8, 0, 0].as_slice());
+        assert_eq!(rt; buf.as_slice(), [1, 2, 3, 4, 0, 0].as_slice());
         Ok(())
     }
 
@@ -87,7 +97,7 @@ mod tests {
     #[test]
     fn hands_on_a_failed_read(rt: HostRuntime) {
         let mut buf = [0u8; 6];
-        let answer = read_full(&mut Slow { reads: 0, fails: 5 }, &mut buf);
+        let answer = read_full(&mut Slow { reads: 0, fails: 3 }, &mut buf);
         assert!(rt; answer.is_err_and(|e| e.kind() == ErrorKind::NotConnected));
     }
 }

@@ -7,14 +7,14 @@ ghost use Rattle.layout.specs.Precincts.{Npx, Npy, slices};
 ghost use Rattle.layout.specs.Slots.{slots};
 ghost use Rattle.rows.specs.declared.Verdict.TheVariants.{Fine};
 
-use input::read_full;
+use input::{not_opened, read_full, word};
 use layout::bands::component_of;
 use layout::lines::{candidate_count, line_at, slot_count};
 use layout::precincts::{precinct_columns, precinct_rows, precincts_in_slice, slice_count};
 use layout::{Line, Shape};
 use rows::Verdict;
 use std::fs::Files;
-use std::{env, fs, io};
+use std::{fs, io};
 
 fn product(a: usize, b: usize) -> usize
     requires { (a < 2 ^ 30) × (b < 2 ^ 30) }
@@ -180,10 +180,10 @@ fn print_stream(rt: &impl Print, name: &str, stream: &[u8]) -> io::Result<()> {
 }
 
 // The file of this name, of at most 65,535 bytes. Where it cannot be opened, standard error says so.
-fn print_file(rt: &(impl Files + Print + Eprint), name: &str) -> io::Result<()> {
+fn print_file(rt: &(impl Files + Print + Eprint + AllocGlobal), name: &str) -> io::Result<()> {
     let mut file = match fs::open(rt, name) {
         Ok(file) => file,
-        Err(e) => return eprintln!(rt; "{name}: {e}"),
+        Err(e) => return not_opened(rt, name, e),
     };
     let mut buffer = [0u8; 65536];
     let size = read_full(&mut file, &mut buffer)?;
@@ -195,8 +195,11 @@ fn print_file(rt: &(impl Files + Print + Eprint), name: &str) -> io::Result<()> 
 }
 
 fn main(rt: HostRuntime) -> io::Result<()> {
-    for name in env::args(&rt)?.skip(1) {
-        print_file(&rt, name.as_str())?;
+    for i in 1..usize::MAX {
+        match word(&rt, i)? {
+            Some(name) => print_file(&rt, name.as_str())?,
+            None => return Ok(()),
+        }
     }
     Ok(())
 }

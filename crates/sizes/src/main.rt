@@ -5,10 +5,10 @@
 ghost use Rattle.std.specs.Prelude.{◌≤◌, ◌<◌, length, IfOk};
 ghost use Rattle.std.specs.Io.{ReadsAtMost};
 
-use input::read_full;
+use input::{not_opened, read_full, word};
 use quantiser::scaled_coefficient;
 use std::fs::Files;
-use std::{env, fs, io};
+use std::{fs, io};
 
 // A number of the text, and the place behind it and the byte that ends it.
 #[derive(Clone, Copy)]
@@ -129,13 +129,17 @@ fn compare(rt: &impl Print, lines: &[u8]) -> io::Result<()> {
 }
 
 // The file of this name: as much of it as `to` takes. Nothing where it cannot be opened, which standard error then says.
-fn read_named(rt: &(impl Files + Eprint), name: &str, to: &mut [u8]) -> io::Result<usize>
+fn read_named(
+    rt: &(impl Files + Eprint + AllocGlobal),
+    name: &str,
+    to: &mut [u8],
+) -> io::Result<usize>
     ensures { ReadsAtMost result to.new }
 {
     match fs::open(rt, name) {
         Ok(mut file) => read_full(&mut file, to),
         Err(e) => {
-            eprintln!(rt; "{name}: {e}")?;
+            not_opened(rt, name, e)?;
             Ok(0)
         }
     }
@@ -143,7 +147,7 @@ fn read_named(rt: &(impl Files + Eprint), name: &str, to: &mut [u8]) -> io::Resu
 
 // The first argument names the file.
 fn main(rt: HostRuntime) -> io::Result<()> {
-    let name = env::args(&rt)?.nth(1);
+    let name = word(&rt, 1)?;
     let mut lines = [0u8; 65536];
     let n = read_named(&rt, name.as_ref().map_or("", |s| s.as_str()), &mut lines)?;
     compare(&rt, &lines[..n])

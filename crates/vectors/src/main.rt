@@ -13,11 +13,11 @@ ghost use Rattle.std.specs.Prelude.{◌≡◌, ◌<◌, ◌≤◌, ◌++◌, IfO
 ghost use Rattle.std.specs.Io.{ReadsAtMost};
 ghost use Rattle.io.specs.Counts.{IsPrefixLen};
 
-use input::read_full;
+use input::{not_opened, read_full};
 use show::modes::{Mode, Told, text_of};
 use std::alloc::{AllocError, Global};
 use std::fs::Files;
-use std::{env, fs, io};
+use std::{fs, io};
 
 fn path_of(alloc: Global, name: &str, ending: &str) -> Result<String, AllocError>
     ensures { IfOk result (λ path. string_bytes path ≡ name.now ++ ending.now) }
@@ -42,7 +42,7 @@ fn read_file(
         Ok(mut file) => read_full(&mut file, to),
         Err(e) => {
             if needed {
-                eprintln!(rt; "{path}: {e}")?;
+                not_opened(rt, path.as_str(), e)?;
             }
             Ok(0)
         }
@@ -228,9 +228,11 @@ fn main(rt: HostRuntime) -> io::Result<()> {
         agreed: 0,
         told: 0,
     };
-    let words: Vec<String> = env::args(&rt)?.skip(1).collect(rt.alloc())?;
-    for (i, word) in words.iter().enumerate() {
-        t = with_word(&rt, t, i + 1, word.as_str())?;
+    for i in 1..usize::MAX {
+        match input::word(&rt, i)? {
+            Some(word) => t = with_word(&rt, t, i, word.as_str())?,
+            None => break,
+        }
     }
     print_tally(&rt, t.agreed, t.streams - t.agreed, t.told)
 }
