@@ -31,7 +31,9 @@ pub fn word(rt: &(impl Env + AllocGlobal), i: usize) -> io::Result<Option<String
     let mut bytes = [0u8; 4096];
     match rt.arg(i, &mut bytes) {
         Ok(n) => {
-            let text = str::from_utf8(&bytes[..n]).map_err(|_| io::Error::from(ErrorKind::InvalidData))?;
+            let text = str::from_utf8(&bytes[..n]).map_err(|_| io::Error::from(
+                ErrorKind::InvalidData,
+            ))?;
             Ok(Some(String::from_str(rt.alloc(), text)?))
         }
         Err(FillError::TooLong) => Ok(Some(String::new(rt.alloc()))),
