@@ -1,10 +1,11 @@
 // What the programs read: standard input, or a file, into a lent buffer, and the words of their command line.
 #![tactic(auto)]
 
-ghost use Rattle.std.specs.Prelude.{◌<◌, length, take, IfOk};
+ghost use Rattle.std.specs.Prelude.{◌≡◌, ◌+◌, ◌<◌, ◌≤◌, [], ◌∷◌, ◌++◌, length, take, IfOk, IfSome, string_bytes};
 ghost use Rattle.std.specs.Io.{ReadsAtMost};
 ghost use Rattle.std.specs.Io.KnownBytes.{Consumes, IsAtEnd};
 
+use std::alloc::{AllocError, Global};
 use std::env::{Env, FillError};
 use std::io;
 use std::io::{ErrorKind, Read};
@@ -27,7 +28,9 @@ pub fn read_full<R: Read>(reader: &mut R, buf: &mut [u8]) -> io::Result<usize>
 }
 
 // Word i of the command line, and none behind the last. One of more than 4,096 bytes counts as the empty word.
-pub fn word(rt: &(impl Env + AllocGlobal), i: usize) -> io::Result<Option<String>> {
+pub fn word(rt: &(impl Env + AllocGlobal), i: usize) -> io::Result<Option<String>>
+    ensures { IfOk result (λ w. IfSome w (λ s. length (string_bytes s) ≤ 4096)) }
+{
     let mut bytes = [0u8; 4096];
     match rt.arg(i, &mut bytes) {
         Ok(n) => {
@@ -41,13 +44,18 @@ pub fn word(rt: &(impl Env + AllocGlobal), i: usize) -> io::Result<Option<String
     }
 }
 
-// Says on standard error why the file of this name was not opened, in the system's words, without the number that an error's text ends with.
-pub fn not_opened(rt: &(impl Eprint + AllocGlobal), name: &str, e: io::Error) -> io::Result<()> {
-    let text = format!(in rt.alloc(); "{e}")?;
+// What is said of a file that was not opened: its name, and the system's words without the number that an error's text ends with.
+pub fn not_opened(alloc: Global, name: &str, e: io::Error) -> Result<String, AllocError>
+    ensures { IfOk result (λ line. take (length name.now + 2) (string_bytes line) ≡ name.now ++ (58 ∷ 32 ∷ [])) }
+{
+    let text = format!(in alloc; "{e}")?;
+    let mut line = String::from_str(alloc, name)?;
+    line.push_str(": ")?;
     match text.as_str().rsplit_once(" (os error ") {
-        Some((words, _)) => eprintln!(rt; "{name}: {words}"),
-        None => eprintln!(rt; "{name}: {text}"),
+        Some((words, _)) => line.push_str(words)?,
+        None => line.push_str(text.as_str())?,
     }
+    Ok(line)
 }
 
 #[cfg(test)]
@@ -101,5 +109,12 @@ mod tests {
         let mut buf = [0u8; 6];
         let answer = read_full(&mut Slow { reads: 0, fails: 3 }, &mut buf);
         assert!(rt; answer.is_err_and(|e| e.kind() == ErrorKind::NotConnected));
+    }
+
+    #[test]
+    fn says_what_the_system_says(rt: HostRuntime) -> Result<(), Fail> {
+        let line = not_opened(rt.alloc(), "page", io::Error::from_raw_os_error(2))?;
+        assert_eq!(rt; line.as_str(), "page: No such file or directory");
+        Ok(())
     }
 }

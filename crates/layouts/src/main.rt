@@ -183,7 +183,7 @@ fn print_stream(rt: &impl Print, name: &str, stream: &[u8]) -> io::Result<()> {
 fn print_file(rt: &(impl Files + Print + Eprint + AllocGlobal), name: &str) -> io::Result<()> {
     let mut file = match fs::open(rt, name) {
         Ok(file) => file,
-        Err(e) => return not_opened(rt, name, e),
+        Err(e) => return eprintln!(rt; "{}", not_opened(rt.alloc(), name, e)?),
     };
     let mut buffer = [0u8; 65536];
     let size = read_full(&mut file, &mut buffer)?;

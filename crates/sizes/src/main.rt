@@ -139,7 +139,7 @@ fn read_named(
     match fs::open(rt, name) {
         Ok(mut file) => read_full(&mut file, to),
         Err(e) => {
-            not_opened(rt, name, e)?;
+            eprintln!(rt; "{}", not_opened(rt.alloc(), name, e)?)?;
             Ok(0)
         }
     }

@@ -42,7 +42,7 @@ fn read_file(
         Ok(mut file) => read_full(&mut file, to),
         Err(e) => {
             if needed {
-                not_opened(rt, path.as_str(), e)?;
+                eprintln!(rt; "{}", not_opened(rt.alloc(), path.as_str(), e)?)?;
             }
             Ok(0)
         }
