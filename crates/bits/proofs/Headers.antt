@@ -9,7 +9,6 @@ use Rattle.bits.specs.Fields.{field, field_at, IsField}
 use Rattle.bits.specs.Cursors.{Steps}
 use Rattle.bits.specs.Packet.{short_widths, long_widths, widths_for, header_bits, header_bytes, header_at, Fit, WidthsOf, IsHeader}
 use Rattle.bits.specs.declared.cursor.Cursor.{Cursor}
-use Rattle.bits.specs.declared.cursor.Step.{Step}
 use Rattle.bits.specs.declared.packet.Widths.{Widths}
 use Rattle.bits.proofs.Laws.{is_field, is_moved, is_within, is_joined}
 
@@ -33,9 +32,9 @@ whole_bytes wf nc lh = one (ltb (wf * nc) 32752 && eqb lh 0)
 -- ---- the fields
 
 -- four steps of a cursor from the header's first bit on read it
-pub is_header : {s : List ℕ} {place : ℕ} {w : Widths} {c : Cursor} {dr dat cnt sgn : Step} → Fit w → c.at ≡ 8 * place
-    → Steps s c 1 dr → Steps s dr.next w.dat dat → Steps s dat.next w.cnt cnt → Steps s cnt.next w.sgn sgn
-    → IsHeader s place w (record { dr = dr.value; ldat = dat.value; lcnt = cnt.value; lsgn = sgn.value })
+pub is_header : {s : List ℕ} {place : ℕ} {w : Widths} {start past_dr past_dat past_cnt end : Cursor} {dr ldat lcnt lsgn : ℕ} → Fit w → start.at ≡ 8 * place
+    → Steps s start 1 dr past_dr → Steps s past_dr w.dat ldat past_dat → Steps s past_dat w.cnt lcnt past_cnt → Steps s past_cnt w.sgn lsgn end
+    → IsHeader s place w (record { dr = dr; ldat = ldat; lcnt = lcnt; lsgn = lsgn })
 is_header {s} {place} {w} fit start dr dat cnt sgn =
     let a = is_moved {j = 8 * place} dr.here (omega arith) in
     let b = is_moved {j = 8 * place + 1} dat.here (omega arith) in

@@ -2,9 +2,8 @@
 use Rattle.std.specs.Prelude.{ℕ, ◌+◌, ◌≡◌, List}
 use Rattle.bits.specs.Fields.{IsField}
 use Rattle.bits.specs.declared.cursor.Cursor.{Cursor}
-use Rattle.bits.specs.declared.cursor.Step.{Step}
 
--- what reading u(n) at a cursor answers: the field there, and the cursor past it
-pub record Steps (s : List ℕ) (c : Cursor) (n : ℕ) (r : Step) : Type 0 where
-  pub here : IsField s c.at n r.value
-  pub next : r.next.at ≡ c.at + n
+-- what reading u(n) at a cursor answers: the field r there, and the cursor past it
+pub record Steps (s : List ℕ) (c : Cursor) (n r : ℕ) (past : Cursor) : Type 0 where
+  pub here : IsField s c.at n r
+  pub next : past.at ≡ c.at + n

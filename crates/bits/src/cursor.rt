@@ -8,13 +8,6 @@ pub struct Cursor {
     pub at: usize,
 }
 
-// A field, and the cursor past it.
-#[derive(Clone, Copy)]
-pub struct Step {
-    pub value: usize,
-    pub next: Cursor,
-}
-
 impl Cursor {
     // The first bit of the byte `place`.
     pub fn new(place: usize) -> Self
@@ -24,15 +17,13 @@ impl Cursor {
         Cursor { at: 8 * place }
     }
 
-    // u(n) here.
-    pub fn read(self, s: &[u8], n: usize) -> Step
-        requires { (n ≤ 24) × (self.at + n < 2 ^ 64) }
-        ensures { Steps s.now self n result }
+    // u(n) here. The cursor then stands past it.
+    pub fn read(&mut self, s: &[u8], n: usize) -> usize
+        requires { (n ≤ 24) × (self.old.at + n < 2 ^ 64) }
+        ensures { Steps s.now self.old n result self.new }
     {
-        let at = self.at;
-        Step {
-            value: crate::field(s, at, n),
-            next: Cursor { at: at + n },
-        }
+        let value = crate::field(s, self.at, n);
+        self.at += n;
+        value
     }
 }

@@ -3,9 +3,10 @@
 #![tactic(auto)]
 
 mod cursor;
+pub mod group;
 pub mod packet;
 
-ghost use Rattle.std.specs.Prelude.{◌+◌, ◌*◌, ◌≤◌, ◌<◌, length};
+ghost use Rattle.std.specs.Prelude.{◌+◌, ◌*◌, ◌≤◌, length};
 ghost use Rattle.bits.specs.Fields.{IsField};
 
 // u(8) at the byte `at`.
@@ -24,53 +25,42 @@ fn bytes_at(s: &[u8], at: usize, n: usize) -> usize
         return 0;
     }
     let mut v: usize = 0;
-    let mut k: usize = 0;
-    while k < n {
+    for k in 0..n {
         v = v * 256 + u8_at(s, at + k);
-        k += 1;
     }
     v
 }
 
-// u(8) at the byte `at`, which is there.
-fn byte(s: &[u8], at: usize) -> usize
-    requires { at < length s.now }
-    ensures { IsField s.now (8 * at) 8 result }
-{
-    s[at] as usize
-}
-
-// u(64) at the byte `at`, where all eight bytes are there. In this form, one expression of plain bytes, the compiler makes one load of it.
+// u(64) at the byte `at`, where all eight bytes are there. The compiler makes one load of it.
 pub fn eight_at(s: &[u8], at: usize) -> usize
     requires { at + 8 ≤ length s.now }
     ensures { IsField s.now (8 * at) 64 result }
 {
-    let a = byte(s, at);
-    let b = byte(s, at + 1);
-    let c = byte(s, at + 2);
-    let d = byte(s, at + 3);
-    let e = byte(s, at + 4);
-    let f = byte(s, at + 5);
-    let g = byte(s, at + 6);
-    let h = byte(s, at + 7);
-    ((((((a * 256 + b) * 256 + c) * 256 + d) * 256 + e) * 256 + f) * 256 + g) * 256 + h
+    usize::from_be_bytes([
+        s[at],
+        s[at + 1],
+        s[at + 2],
+        s[at + 3],
+        s[at + 4],
+        s[at + 5],
+        s[at + 6],
+        s[at + 7],
+    ])
 }
 
-// u(16) at the byte `at`.
+// u(16), u(24) and u(32) at the byte `at`, by the names that the syntax tables have for them: a const parameter for the count of bytes would say no more.
 pub fn u16_at(s: &[u8], at: usize) -> usize
     ensures { IsField s.now (8 * at) 16 result }
 {
     bytes_at(s, at, 2)
 }
 
-// u(24) at the byte `at`.
 pub fn u24_at(s: &[u8], at: usize) -> usize
     ensures { IsField s.now (8 * at) 24 result }
 {
     bytes_at(s, at, 3)
 }
 
-// u(32) at the byte `at`.
 pub fn u32_at(s: &[u8], at: usize) -> usize
     ensures { IsField s.now (8 * at) 32 result }
 {

@@ -73,19 +73,16 @@ impl PacketHeader {
         requires { (place < 2 ^ 60) × Fit w }
         ensures { IsHeader s.now place w result }
     {
-        let start = Cursor::new(place);
-        let dr = start.read(s, 1);
-        let past_dr = dr.next;
-        let dat = past_dr.read(s, w.dat);
-        let past_dat = dat.next;
-        let cnt = past_dat.read(s, w.cnt);
-        let past_cnt = cnt.next;
-        let sgn = past_cnt.read(s, w.sgn);
+        let mut cursor = Cursor::new(place);
+        let dr = cursor.read(s, 1);
+        let ldat = cursor.read(s, w.dat);
+        let lcnt = cursor.read(s, w.cnt);
+        let lsgn = cursor.read(s, w.sgn);
         PacketHeader {
-            dr: dr.value,
-            ldat: dat.value,
-            lcnt: cnt.value,
-            lsgn: sgn.value,
+            dr,
+            ldat,
+            lcnt,
+            lsgn,
         }
     }
 }

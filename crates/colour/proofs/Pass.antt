@@ -1,5 +1,5 @@
 -- The pass over a picture, pixel by pixel: what three stores leave, what x turns leave, and that the contract leaves no choice. Assumes nothing.
-use mathlib.Core.Path.{◌≡◌, refl, sym, ap, ◌∙◌}
+use mathlib.Core.Path.{◌≡◌, sym, ap, ◌∙◌}
 use mathlib.Core.Logic.{◌≢◌}
 use mathlib.Core.List.{List}
 use Prim.Native.Nat.{ℕ, ◌+◌, ◌-◌, ◌≤◌, ◌<◌}
@@ -13,7 +13,7 @@ use Rattle.colour.specs.Pass.{pixel, put, Stretches, TransformedBy}
 use Rattle.colour.specs.declared.Pixel.{Pixel}
 
 -- ---- a pixel is put at p, q and r
-module _ (l : List ℤ) (p q r : ℕ) (o : Pixel) where
+module _ (l : List ℤ) (p q r : ℕ) (o : Pixel ℤ) where
   put_off : (j : ℕ) → (j ≢ p) × (j ≢ q) × (j ≢ r) → cell (put l p q r o) j ≡ cell l j
   put_off j h =
       get_or-set_other (set (set l p o.c0) q o.c1) r j o.c2 (pos 0) h.2
@@ -39,10 +39,7 @@ module _ (l : List ℤ) (p q r : ℕ) (o : Pixel) where
 
 -- ---- the pass
 
-pub pass_starts : {f : Pixel → Pixel} {first second third : ℕ} {l : List ℤ} → TransformedBy f first second third 0 l l
-pass_starts = record { same = refl; on = λ x h. absurd (omega arith); off = λ j h. refl }
-
-module _ {f : Pixel → Pixel} {first second third n x : ℕ} {l l' : List ℤ} (s : Stretches first second third n l) (t : TransformedBy f first second third x l l') (b : x < n) where
+module _ {f : Pixel ℤ → Pixel ℤ} {first second third n x : ℕ} {l l' : List ℤ} (s : Stretches first second third n l) (t : TransformedBy f first second third x l l') (b : x < n) where
   -- the turn's pixel is as it was
   pub pass_here : pixel l' (first + x) (second + x) (third + x) ≡ pixel l (first + x) (second + x) (third + x)
   pass_here =
@@ -60,7 +57,7 @@ module _ {f : Pixel → Pixel} {first second third n x : ℕ} {l l' : List ℤ} 
     off = λ j h. other j (h x (omega arith)) ∙ t.off j (λ y k. h y (omega arith));
   }
     where
-      o : Pixel
+      o : Pixel ℤ
       o = f (pixel l' (first + x) (second + x) (third + x))
 
       m : List ℤ
@@ -96,7 +93,7 @@ place base n j = pick (dec_le base j) (dec_lt j (base + n))
     pick (yes p) (no q) = outside (λ x h e. q (omega arith))
     pick (no p) q = outside (λ x h e. p (omega arith))
 
-pub pass_unique : {f : Pixel → Pixel} {first second third n : ℕ} {l l' l'' : List ℤ} → TransformedBy f first second third n l l' → TransformedBy f first second third n l l'' → l' ≡ l''
+pub pass_unique : {f : Pixel ℤ → Pixel ℤ} {first second third n : ℕ} {l l' l'' : List ℤ} → TransformedBy f first second third n l l' → TransformedBy f first second third n l l'' → l' ≡ l''
 pass_unique {f} {first} {second} {third} {n} {l} {l'} {l''} t u =
     ext_get_or (pos 0) l' l'' (t.same ∙ sym u.same) (λ j h. at j (place first n j) (place second n j) (place third n j))
   where
@@ -104,8 +101,8 @@ pass_unique {f} {first} {second} {third} {n} {l} {l'} {l''} t u =
     both x h = t.on x h ∙ sym (u.on x h)
 
     at : (j : ℕ) → Place first n j → Place second n j → Place third n j → cell l' j ≡ cell l'' j
-    at j (within x h e) q r = rw e (ap (λ (p : Pixel). p.c0) (both x h))
-    at j (outside g) (within x h e) r = rw e (ap (λ (p : Pixel). p.c1) (both x h))
-    at j (outside g) (outside k) (within x h e) = rw e (ap (λ (p : Pixel). p.c2) (both x h))
+    at j (within x h e) q r = rw e (ap (λ (p : Pixel ℤ). p.c0) (both x h))
+    at j (outside g) (within x h e) r = rw e (ap (λ (p : Pixel ℤ). p.c1) (both x h))
+    at j (outside g) (outside k) (within x h e) = rw e (ap (λ (p : Pixel ℤ). p.c2) (both x h))
     at j (outside g) (outside k) (outside m) =
         t.off j (λ x h. (g x h, k x h, m x h)) ∙ sym (u.off j (λ x h. (g x h, k x h, m x h)))

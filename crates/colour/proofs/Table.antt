@@ -6,7 +6,8 @@ use native.Mathlib.Decide.{ℕ_discrete}
 use native.Mathlib.Omega.{arith}
 use borrow.Author.Tests.{eq-eqb, ne_eqb}
 use Rattle.whole.proofs.Linear.{flags_differ}
-use Rattle.colour.specs.Rct.{numbers_rct, Marks, marks_rct}
+use Rattle.colour.specs.Rct.{numbers_rct, marks_rct}
+use Rattle.colour.specs.declared.Pixel.{Pixel}
 use Rattle.colour.specs.Table.{part_of, table_F1, coloured_number, coloured_mark}
 use Rattle.colour.proofs.Laws.{numbers_most, numbers_grow}
 
@@ -67,7 +68,7 @@ module _ (Cpih : ℕ) where
 -- ---- marks
 
 -- no component is marked
-pub record Unmarked (m : Marks) : Type 0 where
+pub record Unmarked (m : Pixel Bool) : Type 0 where
   pub c0 : m.c0 ≡ false
   pub c1 : m.c1 ≡ false
   pub c2 : m.c2 ≡ false
@@ -77,7 +78,7 @@ neither true b e = flags_differ e
 neither false b e = (refl, e)
 
 -- red, green and blue each read all three
-pub rct_unmarked : (m : Marks) → ((marks_rct m).c0 ≡ false → Unmarked m) × ((marks_rct m).c1 ≡ false → Unmarked m) × ((marks_rct m).c2 ≡ false → Unmarked m)
+pub rct_unmarked : (m : Pixel Bool) → ((marks_rct m).c0 ≡ false → Unmarked m) × ((marks_rct m).c1 ≡ false → Unmarked m) × ((marks_rct m).c2 ≡ false → Unmarked m)
 unfolding marks_rct
 rct_unmarked m = (λ e. green (neither _ m.c2 e).0, green, λ e. green (neither _ m.c1 e).0)
   where
@@ -87,7 +88,7 @@ rct_unmarked m = (λ e. green (neither _ m.c2 e).0, green, λ e. green (neither 
         let k = neither m.c1 m.c2 n.1 in
         record { c0 = n.0; c1 = k.0; c2 = k.1 }
 
-pub unmarked_rct : {m : Marks} → Unmarked m → Unmarked (marks_rct m)
+pub unmarked_rct : {m : Pixel Bool} → Unmarked m → Unmarked (marks_rct m)
 unfolding marks_rct
 unmarked_rct u = record { c0 = rw (u.c0, u.c1, u.c2); c1 = rw (u.c0, u.c1, u.c2); c2 = rw (u.c0, u.c1, u.c2) }
 
@@ -103,7 +104,7 @@ table_shielded f Cpih v w m given =
     table_keeps (λ a b n. n ≡ false → a ≡ b) v w m Cpih
     (λ one. let n = rct_unmarked marks in (λ e i. (same one (n.0 e) i).0, λ e i. (same one (n.1 e) i).1, λ e i. (same one (n.2 e) i).2))
   where
-    marks : Marks
+    marks : Pixel Bool
     marks = record { c0 = m 0; c1 = m 1; c2 = m 2 }
 
     same : Cpih ≡ 1 → Unmarked marks → f (v 0) (v 1) (v 2) ≡ f (w 0) (w 1) (w 2)

@@ -1,4 +1,5 @@
 -- Laws of a line of counts. Assumes nothing.
+use Rattle.std.specs.Prelude.{Ok, Err}
 use Prim.Native.Nat.{ℕ, ◌+◌, ◌*◌, ◌/◌, ◌%◌, ◌^◌, ◌≤◌, ◌<◌, max}
 use mathlib.Core.Path.{◌≡◌, refl, sym, ap, ◌∙◌}
 use mathlib.Core.Bool.{Bool, true, false, cond, true≢false}
@@ -16,15 +17,15 @@ use Rattle.whole.specs.Cells.{cell}
 use Rattle.whole.proofs.Machine.{back64}
 use Rattle.loops.specs.Run.{go}
 use Rattle.counts.specs.Codes.{ones}
-use Rattle.counts.specs.Groups.{counted, coded, unpack_raw, unpack_nopred, unpack_vertical}
+use Rattle.counts.specs.Groups.{Group, counted, coded, unpack_raw, unpack_nopred, unpack_vertical}
 use Rattle.bits.specs.Groups.{Ncg, nibbles_of, packed, held, held_m, held_t}
 use Rattle.counts.specs.Lines.{unpack, stored, turn, count_cell, insignificant, above_cell, above, Ready}
 use Rattle.counts.specs.Steps.{is_raw, looked_at}
 use Rattle.counts.specs.declared.group.Coding.{Coding}
 use Rattle.counts.specs.declared.group.Mode.{Mode}
 use Rattle.counts.specs.declared.group.Mode.TheVariants.{Raw, NoPrediction, Vertical}
-use Rattle.counts.specs.declared.group.Group.{Group}
-use Rattle.counts.specs.declared.group.Group.TheVariants.{Count, Cut, High, Long}
+use Rattle.counts.specs.declared.group.Count.{Count}
+use Rattle.counts.specs.declared.group.Fault.TheVariants.{Cut, High, Long}
 use Rattle.counts.specs.declared.Place.{Place}
 use Rattle.counts.proofs.Codes.{vlc_floor, to_t}
 
@@ -35,10 +36,10 @@ cond_by P false f g = g refl
 
 -- ---- what a group's reader finds: a count of at most 31, and a bit that is not before i and, if it is past i, in the stretch. What it refuses is out of range
 abbrev pub Sound : List ℕ → ℕ → ℕ → Group → Type 0
-Sound s br i (Count m next) = (m ≤ 31) × (i ≤ next) × (next ≤ max i (8 * length s))
-Sound s br i Cut = Unit {0}
-Sound s br i (High m) = 31 < m
-Sound s br i (Long n) = 2 ^ (br + 1) ≤ n
+Sound s br i (Ok k) = (k.m ≤ 31) × (i ≤ k.next) × (k.next ≤ max i (8 * length s))
+Sound s br i (Err Cut) = Unit {0}
+Sound s br i (Err (High m)) = 31 < m
+Sound s br i (Err (Long n)) = 2 ^ (br + 1) ≤ n
 
 -- mtop + Δm of a group that is insignificant is a natural
 skipped : (run : Bool) (mtop t : ℕ) → (m : ℕ) × (pos mtop +ℤ cond run (pos t -ℤ pos mtop) (pos 0) ≡ pos m)
@@ -111,11 +112,11 @@ module _ (s sig : List ℕ) (c : Coding) (p : Place) (z g i : ℕ) (cells : List
   turn_is need f = rw (sym e ∙ f)
 
   -- a count, as the code stores it
-  pub turn_counts : (need : ℕ) {m next k b : ℕ} {v : ℤ} → x ≡ Count m next → v ≡ packed m c.t → mag v < 2 ^ 63 → k ≡ count_cell p g → b ≡ nibbles_of m c.t c.fs
-      → turn s sig c p z g (i, need, cells) ≡ go (next, need + b, set cells k (to_z w64 (of_z w64 v)))
+  pub turn_counts : (need : ℕ) {r : Count} {k b : ℕ} {v : ℤ} → x ≡ Ok r → v ≡ packed r.m c.t → mag v < 2 ^ 63 → k ≡ count_cell p g → b ≡ nibbles_of r.m c.t c.fs
+      → turn s sig c p z g (i, need, cells) ≡ go (r.next, need + b, set cells k (to_z w64 (of_z w64 v)))
   turn_counts need {v = v} f a l k b = turn_is need f ∙ rw (back64 v l, a, k, b)
 
-  pub count_sound : {m next : ℕ} → x ≡ Count m next → Sound s c.br i (Count m next)
+  pub count_sound : {k : Count} → x ≡ Ok k → Sound s c.br i (Ok k)
   count_sound f = rw (sym e ∙ f) at (unpack_sound s i c.mode sig c p z g cells)
 
 -- ---- the cells

@@ -1,15 +1,20 @@
 -- C.6.3 to C.6.6: the bitplane count of one code group.
-use Rattle.std.specs.Prelude.{ℕ, ◌+◌, ◌*◌, ◌^◌, ◌≤◌, max, ◌≡◌, Bool, cond, List, leb, ℤ, pos, negsuc, ◌+ℤ◌, ◌-ℤ◌, length}
+use Rattle.std.specs.Prelude.{ℕ, ◌+◌, ◌*◌, ◌^◌, ◌≤◌, max, ◌≡◌, Bool, cond, List, leb, ℤ, pos, negsuc, ◌+ℤ◌, ◌-ℤ◌, length, Result, Ok, Err}
 use Rattle.bits.specs.Fields.{field}
 use Rattle.counts.specs.Codes.{ones, vlc}
 use Rattle.counts.specs.declared.group.Coding.{Coding}
-use Rattle.counts.specs.declared.group.Group.{Group}
-use Rattle.counts.specs.declared.group.Group.TheVariants.{Count, Cut, High, Long}
+use Rattle.counts.specs.declared.group.Count.{Count}
+use Rattle.counts.specs.declared.group.Fault.{Fault}
+use Rattle.counts.specs.declared.group.Fault.TheVariants.{Cut, High, Long}
+
+-- what reading a group finds: its count with the bit past its code, or why it has none
+abbrev pub Group : Type 0
+Group = Result Count Fault
 
 -- M is 0 to 31, whatever Br is; any other is refused. The next code stands from bit `next` on. No M is below 0, since none is below T: `vlc_floor`
 unfoldable pub counted : ℤ → ℕ → Group
-counted (pos m) next = cond (leb m 31) (Count m next) (High m)
-counted (negsuc m) next = High 0
+counted (pos m) next = cond (leb m 31) (Ok (record { m = m; next = next })) (Err (High m))
+counted (negsuc m) next = Err (High 0)
 
 -- C.7.1: mtop + Δm for the code Δm = vlc(mtop, T) at bit i. The 2^(Br+1)th 1-bit is too many, whether or not bits follow: the code's end, and so its count, is
 -- not known then. Before it the stretch's end cuts the code
@@ -17,14 +22,14 @@ unfoldable pub coded : List ℕ → ℕ → ℕ → ℕ → ℕ → Group
 coded s br mtop t i =
     let n = ones s i (2 ^ (br + 1)) in
     cond (leb (2 ^ (br + 1)) n)
-    (Long n)
+    (Err (Long n))
     (cond (leb (8 * length s) (i + n))
-    Cut
+    (Err Cut)
     (counted (pos mtop +ℤ vlc mtop t n) (i + n + 1)))
 
 -- Table C.14: M is u(Br)
 abbrev pub unpack_raw : List ℕ → ℕ → ℕ → Group
-unpack_raw s br i = cond (leb (i + br) (8 * length s)) (counted (pos (field s i br)) (i + br)) Cut
+unpack_raw s br i = cond (leb (i + br) (8 * length s)) (counted (pos (field s i br)) (i + br)) (Err Cut)
 
 -- Table C.16: mtop is T. Of a group that is insignificant, Δm is 0
 abbrev pub unpack_nopred : List ℕ → Coding → Bool → ℕ → Group

@@ -1,18 +1,17 @@
 -- Table C.8: the bitplane counts of one line of one band, in the work cells.
-use Rattle.std.specs.Prelude.{ℕ, ◌+◌, ◌-◌, ◌*◌, ◌/◌, ◌^◌, ◌≤◌, ◌<◌, ◌≡◌, Bool, ◌&&◌, List, eqb, ℤ, set}
+use Rattle.std.specs.Prelude.{ℕ, ◌+◌, ◌-◌, ◌*◌, ◌/◌, ◌^◌, ◌≤◌, ◌<◌, ◌≡◌, Bool, ◌&&◌, List, eqb, ℤ, set, Result, Ok, Err}
 use Rattle.loops.specs.Run.{Turn, go, stop, run}
 use Rattle.whole.specs.Cells.{cell}
 use Rattle.bits.specs.Fields.{bit_at}
 use Rattle.bits.specs.Groups.{Ss, Ncg, nibbles_of, count_cell_of, packed, held_m, held_t}
-use Rattle.counts.specs.Groups.{unpack_raw, unpack_nopred, unpack_vertical}
+use Rattle.counts.specs.Groups.{Group, unpack_raw, unpack_nopred, unpack_vertical}
 use Rattle.counts.specs.declared.group.Coding.{Coding}
 use Rattle.counts.specs.declared.group.Mode.{Mode}
 use Rattle.counts.specs.declared.group.Mode.TheVariants.{Raw, NoPrediction, Vertical}
-use Rattle.counts.specs.declared.group.Group.{Group}
-use Rattle.counts.specs.declared.group.Group.TheVariants.{Count, Cut as CutCode, High as HighCode, Long as LongCode}
+use Rattle.counts.specs.declared.group.Fault.{Fault}
+use Rattle.counts.specs.declared.group.Fault.TheVariants.{Cut, High, Long}
 use Rattle.counts.specs.declared.Place.{Place}
-use Rattle.counts.specs.declared.Line.{Line}
-use Rattle.counts.specs.declared.Line.TheVariants.{Done, Cut, High, Long}
+use Rattle.counts.specs.declared.Counted.{Counted}
 
 -- the count cell of code group g
 abbrev pub count_cell : Place → ℕ → ℕ
@@ -43,23 +42,25 @@ unpack Vertical s sig c p z g i cells = unpack_vertical s c (insignificant sig c
 abbrev pub State : Type 0
 State = ℕ × ℕ × List ℤ
 
+-- what reading a line finds: the next bit and the nibbles, or why it is refused
+abbrev pub Line : Type 0
+Line = Result Counted Fault
+
 -- what a line leaves
 abbrev pub Left : Type 0
 Left = Line × List ℤ
 
 -- a group's count goes to its cell, and a refusal ends the line
 abbrev pub stored : Coding → ℕ → State → Group → Turn State Left
-stored c to x (Count m next) = go (next, x.1 + nibbles_of m c.t c.fs, set x.2 to (packed m c.t))
-stored c to x CutCode = stop (Cut, x.2)
-stored c to x (HighCode m) = stop (High m, x.2)
-stored c to x (LongCode n) = stop (Long n, x.2)
+stored c to x (Ok k) = go (k.next, x.1 + nibbles_of k.m c.t c.fs, set x.2 to (packed k.m c.t))
+stored c to x (Err f) = stop (Err f, x.2)
 
 -- the turn of group g
 unfoldable pub turn : List ℕ → List ℕ → Coding → Place → ℕ → ℕ → State → Turn State Left
 turn s sig c p z g x = stored c (count_cell p g) x (unpack c.mode s sig c p z g x.0 x.2)
 
 abbrev pub end : State → Left
-end x = (Done x.0 x.1, x.2)
+end x = (Ok (record { next = x.0; need = x.1 }), x.2)
 
 -- Table C.8's loop over the line's groups, whose codes stand in the stretch s from bit i on
 unfoldable pub line_counts : List ℕ → List ℕ → Coding → Place → ℕ → ℕ → List ℤ → Left
@@ -69,10 +70,10 @@ line_counts s sig c p i z cells = run (turn s sig c p z) end (Ncg p.width) 0 (i,
 
 -- a line is refused for a count, or for a number of 1-bits, that is out of range
 abbrev pub Founded : ℕ → Line → Type 0
-Founded br (Done next need) = Unit {0}
-Founded br Cut = Unit {0}
-Founded br (High m) = 31 < m
-Founded br (Long n) = 2 ^ (br + 1) ≤ n
+Founded br (Ok k) = Unit {0}
+Founded br (Err Cut) = Unit {0}
+Founded br (Err (High m)) = 31 < m
+Founded br (Err (Long n)) = 2 ^ (br + 1) ≤ n
 
 -- a stretch of `bytes` bytes, and n cells that hold the line and, for vertical prediction, the line above it
 pub record Ready (c : Coding) (p : Place) (bytes z n : ℕ) : Type 0 where

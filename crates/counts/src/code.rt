@@ -1,14 +1,7 @@
 // C.7.1: the variable length code of bitplane counts. Its 1-bits are counted in a word of eight bytes, and a byte at a time where that does not do.
-ghost use Rattle.std.specs.Prelude.{cond, ◌≡◌, ◌+◌, ◌-◌, ◌/◌, ◌%◌, ◌^◌, ◌≤◌, ◌<◌, min, pos, ◌+ℤ◌, length};
+ghost use Rattle.std.specs.Prelude.{◌≡◌, ◌+◌, ◌-◌, ◌/◌, ◌%◌, ◌^◌, ◌≤◌, ◌<◌, pos, ◌+ℤ◌, length};
 ghost use Rattle.counts.specs.Codes.{ones, vlc};
 ghost use Rattle.counts.specs.Steps.{Ahead};
-
-// The smaller of two numbers.
-fn smaller(a: usize, b: usize) -> usize
-    ensures { result ≡ min a b }
-{
-    if b < a { b } else { a }
-}
 
 // The 1-bits from the bit i on, as far as its byte goes: the rest of the byte, turned round, begins with as many zeros.
 fn ones_in_byte(s: &[u8], i: usize) -> usize
@@ -30,7 +23,7 @@ pub fn ones_ahead(s: &[u8], i: usize) -> usize
     usize::leading_zeros(turned) as usize
 }
 
-// The 1-bits from the bit `at` on, of which `limit` are counted at most.
+// The 1-bits from the bit `at` on, of which `limit` are counted at most. The loop goes on by as many bits as a byte still has, so that no `for` fits it.
 pub fn ones_from(s: &[u8], at: usize, limit: usize) -> usize
     requires { (at < 2 ^ 60) × (limit ≤ 64) }
     ensures { result ≡ ones s.now at limit }
@@ -41,24 +34,10 @@ pub fn ones_from(s: &[u8], at: usize, limit: usize) -> usize
         let k = ones_in_byte(s, at + n);
         n += k;
         if k < w {
-            return smaller(limit, n);
+            return limit.min(n);
         }
     }
     limit
-}
-
-// max(r - t, 0): up to twice as many 1-bits are signed quantities, more are unary.
-fn threshold(r: usize, t: usize) -> usize
-    ensures { result ≡ r - t }
-{
-    if t < r { r - t } else { 0 }
-}
-
-// One of two numbers.
-fn chosen(which: bool, a: usize, b: usize) -> usize
-    ensures { result ≡ cond which a b }
-{
-    if which { a } else { b }
 }
 
 // The predictor r, moved by the quantity of n 1-bits. All three ways are worked out and one is chosen, which costs less than a branch that is guessed
@@ -67,9 +46,15 @@ pub fn moved(r: usize, t: usize, n: usize) -> usize
     requires { (r < 2 ^ 32) × (n < 2 ^ 32) }
     ensures { pos result ≡ pos r +ℤ vlc r t n }
 {
-    let theta = threshold(r, t);
+    // up to twice as many 1-bits are signed quantities, more are unary
+    let theta = r.saturating_sub(t);
     let high = r + 0x1_0000_0000;
-    let near = chosen(n % 2 == 1, high - (n + 1) / 2, high + n / 2);
-    let to = chosen(2 * theta < n, high + n - theta, near);
+    let half = (n + 1) / 2;
+    let near = if n % 2 == 1 { high - half } else { high + half };
+    let to = if 2 * theta < n {
+        high + n - theta
+    } else {
+        near
+    };
     to - 0x1_0000_0000
 }

@@ -20,11 +20,16 @@ pub struct Coding {
     pub br: usize,
 }
 
-// What reading a group finds: its count with the bit past its code, that the stretch's end cuts the code, a count that is out of range, or so many 1-bits that
-// they are no code.
+// The count of a group that is read, and the bit past its code.
 #[derive(Clone, Copy)]
-pub enum Group {
-    Count(usize, usize),
+pub struct Count {
+    pub m: usize,
+    pub next: usize,
+}
+
+// Why counts cannot be read: the stretch's end cuts a code, a count is out of range, or so many 1-bits stand where a code stood that they are none.
+#[derive(Clone, Copy)]
+pub enum Fault {
     Cut,
     High(usize),
     Long(usize),

@@ -5,13 +5,14 @@ mod code;
 pub mod group;
 mod unpack;
 
-ghost use Rattle.std.specs.Prelude.{◌≡◌, ◌+◌, ◌*◌, ◌/◌, ◌%◌, ◌^◌, ◌≤◌, ◌<◌, length};
-ghost use Rattle.bits.specs.Groups.{Ncg, held, packed, Takes};
+ghost use Rattle.std.specs.Prelude.{◌≡◌, ◌^◌, ◌≤◌, ◌<◌, length};
+ghost use Rattle.bits.specs.Groups.{Ncg, held, packed};
 ghost use Rattle.counts.specs.declared.group.Mode.TheVariants.{Vertical};
 ghost use Rattle.counts.specs.Lines.{count_cell, insignificant, unpack, line_counts, Ready};
 ghost use Rattle.counts.specs.Steps.{is_raw, looked_at};
 
-use crate::group::{Coding, Group, Mode};
+use crate::group::{Coding, Count, Fault, Mode};
+use bits::group::{held, nibbles_of};
 
 // Where the cells of a line lie: coefficient x at `first` + x `stride`, for x below `width`, its count `area` cells behind it, and the
 // same coefficient one line up `up` cells before it.
@@ -24,21 +25,11 @@ pub struct Place {
     pub up: usize,
 }
 
-// What reading a line finds: the bit past it and the nibbles of data that its groups take, that the stretch's end cuts a code, a count that is
-// out of range, or so many 1-bits that they are no code.
+// Of a line that is read, the bit past it and the nibbles of data that its groups take.
 #[derive(Clone, Copy)]
-pub enum Line {
-    Done { next: usize, need: usize },
-    Cut,
-    High(usize),
-    Long(usize),
-}
-
-// What a count cell holds; a negative number is read as 0.
-fn held(z: i64) -> usize
-    ensures { result ≡ held z }
-{
-    if z < 0 { 0 } else { z as usize }
+pub struct Counted {
+    pub next: usize,
+    pub need: usize,
 }
 
 // A count and a truncation position as a cell holds them.
@@ -47,21 +38,6 @@ fn to_hold(m: usize, t: usize) -> i64
     ensures { result ≡ packed m t }
 {
     (m + 32 * t) as i64
-}
-
-// How many nibbles of data the group with the count m takes.
-fn group_nibbles(c: Coding, m: usize) -> usize
-    requires { m ≤ 31 }
-    ensures { Takes m c.t c.fs result }
-{
-    let t = c.t;
-    if m <= t {
-        return 0;
-    }
-    if c.fs {
-        return m - t;
-    }
-    m - t + 1
 }
 
 // The count cell of the code group g.
@@ -77,22 +53,14 @@ fn is_insignificant(sig: &[u8], c: Coding, z: usize, g: usize) -> bool
     requires { z < 2 ^ 60 }
     ensures { result ≡ insignificant sig.now c z g }
 {
-    if c.flags {
-        bits::bit(sig, z + g / 8) == 1
-    } else {
-        false
-    }
+    c.flags && bits::bit(sig, z + g / 8) == 1
 }
 
 // Are the counts coded raw?
 fn is_raw(mode: Mode) -> bool
     ensures { result ≡ is_raw mode }
 {
-    match mode {
-        Mode::Raw => true,
-        Mode::NoPrediction => false,
-        Mode::Vertical => false,
-    }
+    matches!(mode, Mode::Raw)
 }
 
 // What the cell that predicts the code group g holds: that of the line above, or, where nothing predicts, 0.
@@ -101,8 +69,7 @@ fn looked_at(cells: &[i64], mode: Mode, p: Place, g: usize) -> usize
     ensures { result ≡ held (looked_at mode p g cells.now) }
 {
     match mode {
-        Mode::Raw => 0,
-        Mode::NoPrediction => 0,
+        Mode::Raw | Mode::NoPrediction => 0,
         Mode::Vertical => held(cells[count_cell(p, g) - p.up]),
     }
 }
@@ -117,7 +84,7 @@ fn group_at(
     z: usize,
     g: usize,
     i: usize,
-) -> Group
+) -> Result<Count, Fault>
     requires { Ready c p (length stretch.now) z (length cells.now) × (g < Ncg p.width) }
     ensures { result ≡ unpack c.mode stretch.now sig.now c p z g i cells.now }
 {
@@ -145,35 +112,18 @@ pub fn line_counts(
     place: Place,
     at: usize,
     sig_at: usize,
-) -> Line
+) -> Result<Counted, Fault>
     requires { Ready coding place (length stretch.now) sig_at (length cells.old) }
     ensures { line_counts stretch.now sig.now coding place at sig_at cells.old ≡ (result, cells.new) }
 {
-    let groups = (place.width + 3) / 4;
+    let groups = place.width.div_ceil(4);
     let mut i = at;
     let mut need: usize = 0;
-    let mut g: usize = 0;
-    while g < groups {
-        match group_at(stretch, sig, cells, coding, place, sig_at, g, i) {
-            Group::Count(m, next) => {
-                cells[count_cell(place, g)] = to_hold(m, coding.t);
-                need += group_nibbles(coding, m);
-                i = next;
-            }
-            Group::Cut => {
-                return Line::Cut;
-            }
-            Group::High(m) => {
-                return Line::High(m);
-            }
-            Group::Long(n) => {
-                return Line::Long(n);
-            }
-        }
-        g += 1;
+    for g in 0..groups {
+        let count = group_at(stretch, sig, cells, coding, place, sig_at, g, i)?;
+        cells[count_cell(place, g)] = to_hold(count.m, coding.t);
+        need += nibbles_of(count.m, coding.t, coding.fs);
+        i = count.next;
     }
-    Line::Done {
-        next: i,
-        need: need,
-    }
+    Ok(Counted { next: i, need })
 }

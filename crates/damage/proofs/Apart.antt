@@ -1,5 +1,6 @@
 -- A sound stream and a damaged one that differ in one slice alone, outside its header and its precincts' lengths. Where the damaged slice is refused, the damaged
 -- stream is accepted in the mode, no other slice is spoilt, and what the others leave in their cells is what they leave of the sound stream. Assumes nothing.
+use Rattle.std.specs.Prelude.{Ok, Err}
 use Prim.Native.Nat.{ℕ, zero, suc, ◌+◌, ◌-◌, ◌*◌, ◌≤◌, ◌<◌}
 use mathlib.Core.Path.{◌≡◌, refl, sym, ap, ◌∙◌}
 use mathlib.Core.Bool.{true, false}
@@ -12,9 +13,7 @@ use Rattle.whole.specs.Cells.{cell, Same}
 use Rattle.loops.specs.Before.{before}
 use Rattle.loops.proofs.Laws.{run_carries}
 use Rattle.loops.proofs.Before.{before_carries}
-use Rattle.rows.specs.Rows.{check, ample, first}
-use Rattle.rows.specs.declared.Verdict.{Verdict}
-use Rattle.rows.specs.declared.Verdict.TheVariants.{Fine, Refused}
+use Rattle.rows.specs.Rows.{check, ample, first, Fine, Verdict}
 use Rattle.rows.specs.declared.Row.TheVariants.{Cut, Marker}
 use Rattle.rows.specs.declared.Field.TheVariants.{Eoc, Tail}
 use Rattle.bits.specs.Alike.{Alike}
@@ -52,8 +51,8 @@ unfolding walk_slice slice
 walked_slice s c t x {to} e = by (first (slice_checks s t x.0)) e
   where
     by : (v : Verdict) → walk_by s c v t x.0 ≡ (Fine, to) → precincts_by s c t v x ≡ precincts_of s c t x
-    by Fine e = refl
-    by (Refused k) e = clash (λ i. (e i).0)
+    by (Ok _) e = refl
+    by (Err k) e = clash (λ i. (e i).0)
 
 -- ---- two streams
 

@@ -11,7 +11,7 @@ use lib.IntN.{ℤ, pos}
 use lib.ListN.{length}
 use Rattle.whole.specs.Cells.{cell}
 use Rattle.loops.proofs.Before.{before_carries}
-use Rattle.rows.specs.declared.Verdict.TheVariants.{Fine}
+use Rattle.rows.specs.Rows.{Fine}
 use Rattle.layout.specs.Bands.{Wc, Hc}
 use Rattle.layout.specs.Precincts.{slices}
 use Rattle.layout.specs.Cells.{area, start}

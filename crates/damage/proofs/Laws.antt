@@ -1,4 +1,5 @@
 -- What the stream leaves in the mode of damaged pages, accepted or refused: as many cells, their size, and the largest T. Assumes nothing.
+use Rattle.std.specs.Prelude.{Ok, Err}
 use Prim.Native.Nat.{ℕ, zero, suc, ◌+◌, ◌^◌, ◌≤◌, ◌<◌}
 use mathlib.Core.Path.{◌≡◌, refl, ap, ◌∙◌}
 use mathlib.Core.Bool.{Bool, true, false, cond}
@@ -10,8 +11,7 @@ use lib.Pow.{pow_mono}
 use Rattle.whole.specs.Cells.{cell, Bounded}
 use Rattle.loops.proofs.Laws.{Kept, run_keeps}
 use Rattle.loops.proofs.Before.{before_carries}
-use Rattle.rows.specs.declared.Verdict.{Verdict}
-use Rattle.rows.specs.declared.Verdict.TheVariants.{Fine, Refused}
+use Rattle.rows.specs.Rows.{Fine, Verdict}
 use Rattle.layout.specs.declared.Shape.{Shape}
 use Rattle.layout.specs.Built.{Built}
 use Rattle.layout.specs.Bands.{NL}
@@ -43,12 +43,12 @@ module _ (s : List ℕ) (c : Setting) (P : State → Type 0)
   damaged_turn_keeps t x l h = by (walk_slice s c t x.0)
     where
       behind : (to : ℕ) (r : Left) → P r.1 → P (behind_slice c t to x.1 r)
-      behind to (Fine, y) k = k
-      behind to (Refused q, y) k = loses t to x y h k
+      behind to (Ok _, y) k = k
+      behind to (Err q, y) k = loses t to x y h k
 
       by : (w : Verdict × ℕ) → Kept P (λ (r : Left). P r.1) (stepped_over s c t x w)
-      by (Fine, to) = behind to (precincts_of s c t x) (reads t x l h)
-      by (Refused k, at) = h
+      by (Ok _, to) = behind to (precincts_of s c t x) (reads t x l h)
+      by (Err k, at) = h
 
   pub damaged_keeps : ((x : State) → P x → P (ended s x).1) → (x : State) → P x → P (stream_by s c true x).1
   unfolding stream_by

@@ -23,7 +23,7 @@ use Rattle.layout.proofs.Cells.{starts_up}
 use Rattle.layout.proofs.Columns.{slices_most}
 use Rattle.layout.proofs.Members.{true_false}
 use Rattle.layout.proofs.Slices.{slice_has_row, row_in_slice}
-use Rattle.damage.specs.declared.lost.Rows.{Rows}
+use Rattle.std.specs.declared.ops.Range.{Range}
 use Rattle.damage.specs.Lost.{lost_count, in_slice, lost_cell}
 use Rattle.damage.specs.Steps.{IsRows, Stretched}
 use Rattle.whole.proofs.Passes.{map_at_length, map_at_at}
@@ -41,7 +41,7 @@ module _ (s : Shape) (built : Built s) (t : ℕ) (k : t < slices s) (p d : ℕ) 
 
 module _ (s : Shape) (built : Built s) (i t : ℕ) (h : i < s.nc) where
   pub rows_are : {c : Component} {p a b : ℕ} → c ≡ component_of s i → p ≡ 2 ^ s.nly → a ≡ min (t * (s.hsl * (p / c.sy))) c.h
-      → b ≡ min (t * (s.hsl * (p / c.sy)) + s.hsl * (p / c.sy)) c.h → IsRows s i t (record { from = a; to = b })
+      → b ≡ min (t * (s.hsl * (p / c.sy)) + s.hsl * (p / c.sy)) c.h → IsRows s i t (record { start = a; end = b })
   rows_are {c} {p} {a} {b} part power from to =
       let tall = slice_cell_rows s i in
       let n : s.hsl * (p / c.sy) ≡ tall = λ z. s.hsl * (power z / (part z).sy) in
@@ -59,31 +59,31 @@ module _ (s : Shape) (built : Built s) (i t : ℕ) (h : i < s.nc) where
 
 -- ---- where their cells stand
 
-module _ (s : Shape) (built : Built s) (i t : ℕ) (h : i < s.nc) {r : Rows} (rows : IsRows s i t r) where
+module _ (s : Shape) (built : Built s) (i t : ℕ) (h : i < s.nc) {r : Range ℕ} (rows : IsRows s i t r) where
   abbrev W : ℕ
   W = Wc s i
 
   -- their stretches lie among the cells, by the numbers that are at hand, and no sum or product of `lose_rows` is large
   pub rows_fit : {w n a size : ℕ} → w ≡ Wc s i → (n ≡ samples s i) × (n ≤ 2 ^ 30) → (a ≡ area s i) × (a ≤ 2 ^ 28) → start s s.nc ≤ size
-      → (r.from * w ≤ r.to * w) × (2 * n + a + r.to * w ≤ size) × (2 * n + a + r.to * w < 2 ^ 33)
+      → (r.start * w ≤ r.end * w) × (2 * n + a + r.end * w ≤ size) × (2 * n + a + r.end * w < 2 ^ 33)
   unfolding area
   rows_fit {w} e n a room =
       let all : Hc s i * w ≡ Hc s i * W = λ z. Hc s i * e z in
-      let inside : r.to * w ≤ area s i = omega (arith, mul-le-mul_right w rows.inside, mul_comm W (Hc s i)) in
+      let inside : r.end * w ≤ area s i = omega (arith, mul-le-mul_right w rows.inside, mul_comm W (Hc s i)) in
       let u = starts_up s i s.nc h in
       (mul-le-mul_right w rows.ordered, omega (arith, n, a), omega (arith, n, a))
 
   -- a cell of one of them, and a cell of the stretch
-  row_stretch : (first n : ℕ) → Within s t i first n → (first + r.from * W ≤ n) × (n < first + r.to * W)
+  row_stretch : (first n : ℕ) → Within s t i first n → (first + r.start * W ≤ n) × (n < first + r.end * W)
   row_stretch first n w =
       let q = (rows.has w.Y w.row).0 w.slice in
       (omega (arith, w.stands, mul-le-mul_right W q.0), omega (arith, w.stands, w.column, mul-le-mul_right W q.1, suc-mul w.Y W))
 
-  stretch_row : (first n : ℕ) → first + r.from * W ≤ n → n < first + r.to * W → Within s t i first n
+  stretch_row : (first n : ℕ) → first + r.start * W ≤ n → n < first + r.end * W → Within s t i first n
   stretch_row first n a b =
       let wide = (component_small s i (component_of s i) built h refl).wide in
-      let from : r.from ≤ (n - first) / W = (le-div_iff_mul-le wide).1 (omega arith) in
-      let to : (n - first) / W < r.to = (div-lt_iff_lt-mul wide).1 (omega arith) in
+      let from : r.start ≤ (n - first) / W = (le-div_iff_mul-le wide).1 (omega arith) in
+      let to : (n - first) / W < r.end = (div-lt_iff_lt-mul wide).1 (omega arith) in
       let row : (n - first) / W < Hc s i = omega (arith, rows.inside) in
       record {
         X = (n - first) % W;
@@ -94,16 +94,16 @@ module _ (s : Shape) (built : Built s) (i t : ℕ) (h : i < s.nc) {r : Rows} (ro
         stands = omega (arith, a, div-add-mod' (n - first) W);
       }
 
-  outside : (first n : ℕ) → in_slice s t i first n ≡ false → first + r.from * W ≤ n → first + r.to * W ≤ n
-  outside first n e a = by (dec_lt n (first + r.to * W))
+  outside : (first n : ℕ) → in_slice s t i first n ≡ false → first + r.start * W ≤ n → first + r.end * W ≤ n
+  outside first n e a = by (dec_lt n (first + r.end * W))
     where
-      by : Dec (n < first + r.to * W) → first + r.to * W ≤ n
+      by : Dec (n < first + r.end * W) → first + r.end * W ≤ n
       by (yes b) = true_false (sym e ∙ within_true s t i first n (stretch_row first n a b))
       by (no b) = omega arith
 
   -- the two stretches filled
-  module _ {l l₁ l₂ : List ℤ} (zeros : Stretched (start s i + r.from * W) (start s i + r.to * W) (pos 0) l l₁)
-      (marks : Stretched (start s i + area s i + r.from * W) (start s i + area s i + r.to * W) lost_count l₁ l₂) where
+  module _ {l l₁ l₂ : List ℤ} (zeros : Stretched (start s i + r.start * W) (start s i + r.end * W) (pos 0) l l₁)
+      (marks : Stretched (start s i + area s i + r.start * W) (start s i + area s i + r.end * W) lost_count l₁ l₂) where
     filled : (n : ℕ) (a b : Bool) → in_slice s t i (start s i) n ≡ a → in_slice s t i (start s i + area s i) n ≡ b → cell l₂ n ≡ lost_cell s t i n (cell l n)
     filled n true b e f =
         let w = true_within s t i (start s i) n built h e in
@@ -126,7 +126,7 @@ module _ (s : Shape) (built : Built s) (i t : ℕ) (h : i < s.nc) {r : Rows} (ro
 
   -- by the numbers that are at hand
   pub rows_lost_by : {w n a : ℕ} {l l₁ l₂ : List ℤ} → w ≡ Wc s i → n ≡ samples s i → a ≡ area s i
-      → Stretched (2 * n + r.from * w) (2 * n + r.to * w) (pos 0) l l₁ → Stretched (2 * n + a + r.from * w) (2 * n + a + r.to * w) lost_count l₁ l₂ → l₂ ≡ map_at (lost_cell s t i) l
+      → Stretched (2 * n + r.start * w) (2 * n + r.end * w) (pos 0) l l₁ → Stretched (2 * n + a + r.start * w) (2 * n + a + r.end * w) lost_count l₁ l₂ → l₂ ≡ map_at (lost_cell s t i) l
   rows_lost_by {l = l} {l₁} {l₂} e p q zeros marks =
-      rows_lost (subst (λ (f : ℕ × ℕ). Stretched f.0 f.1 (pos 0) l l₁) (λ z. (2 * p z + r.from * e z, 2 * p z + r.to * e z)) zeros)
-      (subst (λ (f : ℕ × ℕ). Stretched f.0 f.1 lost_count l₁ l₂) (λ z. (2 * p z + q z + r.from * e z, 2 * p z + q z + r.to * e z)) marks)
+      rows_lost (subst (λ (f : ℕ × ℕ). Stretched f.0 f.1 (pos 0) l l₁) (λ z. (2 * p z + r.start * e z, 2 * p z + r.end * e z)) zeros)
+      (subst (λ (f : ℕ × ℕ). Stretched f.0 f.1 lost_count l₁ l₂) (λ z. (2 * p z + q z + r.start * e z, 2 * p z + q z + r.end * e z)) marks)

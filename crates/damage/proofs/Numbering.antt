@@ -1,35 +1,19 @@
 -- The numbers that tell which coefficients are lost: the loop over a component's cells, and the loop over the components. Assumes nothing.
 use Prim.Native.Nat.{ℕ, ◌+◌, ◌*◌, ◌≤◌, ◌<◌}
-use mathlib.Core.Path.{◌≡◌, refl, ap, subst, ◌∙◌}
-use mathlib.Core.Bool.{true, false}
+use mathlib.Core.Path.{◌≡◌, ap, subst, ◌∙◌}
 use mathlib.Core.List.{List}
 use native.Mathlib.Decide.{dec_lt}
 use native.Mathlib.Omega.{arith}
-use lib.IntN.{ℤ, pos, negsuc}
+use lib.IntN.{ℤ, pos}
 use lib.ListN.{length, set, length-set}
 use lib.Seq.{get_or-set_same, get_or-set_other}
-use lib.Signed.{lt_z}
 use Rattle.whole.specs.Cells.{cell}
-use Rattle.whole.proofs.Linear.{lt_z_true, lt_z_false}
 use Rattle.layout.specs.declared.Shape.{Shape}
 use Rattle.layout.specs.Cells.{area, samples, start}
 use Rattle.layout.proofs.Cells.{starts_up}
 use Rattle.damage.specs.Steps.{lost_number, LostNumbersBefore, NumberedBy}
 
--- ---- by the sign
-
-pub number_lost : (z : ℤ) → lt_z z (pos 0) ≡ true → pos 1 ≡ lost_number z
-number_lost (pos n) e = absurd (omega (arith, lt_z_true (pos n) (pos 0) e))
-number_lost (negsuc n) e = refl
-
-pub number_kept : (z : ℤ) → lt_z z (pos 0) ≡ false → pos 0 ≡ lost_number z
-number_kept (pos n) e = refl
-number_kept (negsuc n) e = absurd (omega (arith, lt_z_false (negsuc n) (pos 0) e))
-
 -- ---- a component's cells
-
-pub numbered_none : {from size : ℕ} {l : List ℤ} → NumberedBy from size 0 l l
-numbered_none = record { same = refl; number = λ n h. absurd (omega arith); other = λ n h. refl }
 
 pub numbered_more : {from size k : ℕ} {v : ℤ} {l l' : List ℤ} → k < size → from + 2 * size ≤ length l → NumberedBy from size k l l' → v ≡ lost_number (cell l' (from + size + k))
     → NumberedBy from size (k + 1) l (set l' (from + k) v)
@@ -49,9 +33,6 @@ numbered_more {from} {size} {k} {v} {l} {l'} below room x is =
 -- ---- all components
 
 module _ (s : Shape) where
-  pub numbers_none : {l : List ℤ} → LostNumbersBefore s 0 l l
-  numbers_none = record { same = refl; number = λ j n h. absurd (omega arith); other = λ n h. refl }
-
   module _ {i : ℕ} {l l₁ l₂ : List ℤ} (x : LostNumbersBefore s i l l₁) where
     one_more : NumberedBy (start s i) (area s i) (area s i) l₁ l₂ → LostNumbersBefore s (i + 1) l l₂
     one_more y =

@@ -1,4 +1,5 @@
 -- The pieces of a spoilt slice; in either mode the pieces tile the stream, and an accepted page has the same in both. Assumes nothing.
+use Rattle.std.specs.Prelude.{Ok, Err}
 use Prim.Native.Nat.{ℕ, ◌+◌, ◌-◌, ◌^◌, ◌<◌}
 use mathlib.Core.Bool.{Bool, true, false, cond}
 use mathlib.Core.List.{List, [], ◌∷◌}
@@ -9,9 +10,7 @@ use lib.ListN.{length}
 use Rattle.loops.specs.Run.{go, stop}
 use Rattle.loops.proofs.Along.{each_along, along_follows}
 use Rattle.loops.proofs.Follows.{go_same, go_stop}
-use Rattle.rows.specs.Rows.{first}
-use Rattle.rows.specs.declared.Verdict.{Verdict}
-use Rattle.rows.specs.declared.Verdict.TheVariants.{Fine, Refused}
+use Rattle.rows.specs.Rows.{first, Fine, Verdict}
 use Rattle.pieces.specs.declared.Bytes.{Bytes}
 use Rattle.pieces.specs.Pieces.{Markers, Spoilt, Piece, size, bytes_of, nothing, plus, all}
 use Rattle.pieces.proofs.Laws.{bytes_none, bytes_first, bytes_one, read_few, Adding, adds_begin, tiles_along}
@@ -40,16 +39,16 @@ module _ (s : List ℕ) (c : Setting) where
   step_tiles n at to = by (first (walk_checks s c at))
     where
       by : (v : Verdict) → stepped v at (end_of s c at) ≡ go to → at + size (stepped_pieces s c n at) ≡ to
-      by Fine e = omega (arith, go_same e)
-      by (Refused k) e = go_stop (sym e)
+      by (Ok _) e = omega (arith, go_same e)
+      by (Err k) e = go_stop (sym e)
 
   step_stops : (n at : ℕ) (r : Verdict × ℕ) → walk_turn s c n at ≡ stop r → r.0 ≡ Fine → ⊥
   unfolding walk_turn
   step_stops n at r = by (first (walk_checks s c at))
     where
       by : (v : Verdict) → stepped v at (end_of s c at) ≡ stop r → r.0 ≡ Fine → ⊥
-      by Fine e f = go_stop e
-      by (Refused k) e f = stop_refuses e f
+      by (Ok _) e f = go_stop e
+      by (Err k) e f = stop_refuses e f
 
   -- the pieces of its precincts lead to where the walk ends
   pub walked_tiles : (t at to : ℕ) → walk_precincts s c t at ≡ (Fine, to) → at + size (walked_pieces s c t at) ≡ to
@@ -67,8 +66,8 @@ module _ (s : List ℕ) (c : Setting) where
   slice_walked t at to = by (first (slice_checks s t at))
     where
       by : (v : Verdict) → walk_by s c v t at ≡ (Fine, to) → walk_precincts s c t (at + slice_header_bytes) ≡ (Fine, to)
-      by Fine e = e
-      by (Refused k) e = clash (λ i. (e i).0)
+      by (Ok _) e = e
+      by (Err k) e = clash (λ i. (e i).0)
 
   pub spoilt_tiles : (t at to : ℕ) → walk_slice s c t at ≡ (Fine, to) → at + size (spoilt_pieces s c t at) ≡ to
   unfolding spoilt_pieces size
@@ -102,12 +101,12 @@ module _ (s : List ℕ) (c : Setting) where
     where
       behind : (to : ℕ) → walk_slice s c t x.0 ≡ (Fine, to) → (r : Left) → precincts_of s c t x ≡ r
           → x.0 + size (cond (refuses r.0) (spoilt_pieces s c t x.0) (slice_pieces s c t x)) ≡ (behind_slice c t to x.1 r).0
-      behind to w (Fine, z) e = omega (arith, precincts_tile s c t (x.0 + slice_header_bytes, x.1, x.2) z e)
-      behind to w (Refused k, z) e = spoilt_tiles s c t x.0 to w
+      behind to w (Ok _, z) e = omega (arith, precincts_tile s c t (x.0 + slice_header_bytes, x.1, x.2) z e)
+      behind to w (Err k, z) e = spoilt_tiles s c t x.0 to w
 
       by : (w : Verdict × ℕ) → walk_slice s c t x.0 ≡ w → stepped_over s c t x w ≡ go y → x.0 + size (damaged_pieces s c t x) ≡ y.0
-      by (Fine, to) w e = behind to w (precincts_of s c t x) refl ∙ ap (λ (z : State). z.0) (go_same e)
-      by (Refused k, at) w e = go_stop (sym e)
+      by (Ok _, to) w e = behind to w (precincts_of s c t x) refl ∙ ap (λ (z : State). z.0) (go_same e)
+      by (Err k, at) w e = go_stop (sym e)
 
   pub turn_tiles : (damaged : Bool) (t : ℕ) (x y : State) → turn_by s c damaged t x ≡ go y → x.0 + size (pieces_by s c damaged t x) ≡ y.0
   turn_tiles false = slice_turn_tiles s c
@@ -149,10 +148,10 @@ module _ (s : List ℕ) (c : Setting) where
   turn_same t x y = by (slice s c t x) refl
     where
       by : (r : Left) → slice s c t x ≡ r → sliced r ≡ go y → (damaged_turn s c t x ≡ go y) × (damaged_pieces s c t x ≡ slice_pieces s c t x)
-      by (Fine, z) e f =
+      by (Ok _, z) e f =
           let own = sound s c t x z e in
           (own.turn ∙ f, λ i. cond (refuses (own.reads i).0) (spoilt_pieces s c t x.0) (slice_pieces s c t x))
-      by (Refused k, z) e f = go_stop (sym f)
+      by (Err k, z) e f = go_stop (sym f)
 
   pub pieces_whole : (x y : State) → stream s c x ≡ (Fine, y) → stream_pieces_by s c true x ≡ stream_pieces s c x
   unfolding stream stream_pieces_by stream_pieces

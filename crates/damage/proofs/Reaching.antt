@@ -1,4 +1,5 @@
 -- The states that the reading of a damaged page comes to, slice by slice. Assumes nothing.
+use Rattle.std.specs.Prelude.{Ok, Err}
 use Prim.Native.Nat.{ℕ, ◌+◌, ◌≤◌, ◌<◌}
 use mathlib.Core.Path.{◌≡◌, refl, sym, ap, ◌∙◌}
 use mathlib.Core.Bool.{true, false}
@@ -8,9 +9,7 @@ use Rattle.loops.specs.Run.{go, stop}
 use Rattle.loops.specs.Before.{before}
 use Rattle.loops.proofs.Before.{Turns, run_turns}
 use Rattle.loops.proofs.Follows.{go_same, stop_same, go_stop}
-use Rattle.rows.specs.Rows.{first}
-use Rattle.rows.specs.declared.Verdict.{Verdict}
-use Rattle.rows.specs.declared.Verdict.TheVariants.{Fine, Refused}
+use Rattle.rows.specs.Rows.{first, Fine, Verdict}
 use Rattle.layout.specs.Precincts.{Np, slices}
 use Rattle.layout.proofs.Members.{true_false}
 use Rattle.packets.specs.declared.Setting.{Setting}
@@ -37,24 +36,24 @@ module _ (s : List ℕ) (c : Setting) (t : ℕ) (x : State) (to : ℕ) where
   over_reads y w e = by _ refl w
     where
       by : (v : Verdict) → first (slice_checks s t x.0) ≡ v → walk_by s c v t x.0 ≡ (Fine, to) → Reads y
-      by Fine f w =
+      by (Ok _) f w =
           let walks = reading_walks s c t (x.0 + slice_header_bytes, x.1, x.2) y e in
           record { accepted = (λ i. precincts_by s c t (f i) x) ∙ e; place = λ i. ((sym walks ∙ w) i).1 }
-      by (Refused k) f w = clash (λ i. (w i).0)
+      by (Err k) f w = clash (λ i. (w i).0)
 
 -- so a slice that is stepped over ends where its declared lengths lead, read or lost
 pub behind_place : (s : List ℕ) (c : Setting) (t to : ℕ) (x : State) → walk_slice s c t x.0 ≡ (Fine, to) → (behind_slice c t to x.1 (precincts_of s c t x)).0 ≡ to
 behind_place s c t to x w = by (precincts_of s c t x) refl
   where
     by : (r : Left) → precincts_of s c t x ≡ r → (behind_slice c t to x.1 r).0 ≡ to
-    by (Fine, y) e = (over_reads s c t x to y w e).place
-    by (Refused k, y) e = refl
+    by (Ok _, y) e = (over_reads s c t x to y w e).place
+    by (Err k, y) e = refl
 
 -- ---- the slices of a damaged page whose walk is accepted
 
 pub over_stops : (s : List ℕ) (c : Setting) (t : ℕ) (x : State) (w : Verdict × ℕ) (r : Left) → stepped_over s c t x w ≡ stop r → r.0 ≡ Fine → ⊥
-over_stops s c t x (Fine, to) r e f = go_stop e
-over_stops s c t x (Refused k, at) r e f = clash (ap (λ (l : Left). l.0) (stop_same e) ∙ f)
+over_stops s c t x (Ok _, to) r e f = go_stop e
+over_stops s c t x (Err k, at) r e f = clash (ap (λ (l : Left). l.0) (stop_same e) ∙ f)
 
 -- the walk of slice t leads to `to`, and what its precincts leave, or lose, is the state before the next
 pub record Stepped (s : List ℕ) (c : Setting) (x : State) (t : ℕ) : Type 0 where
@@ -80,8 +79,8 @@ module _ (s : List ℕ) (c : Setting) (x : State) (fine : (stream_by s c true x)
     where
       by : (w : Verdict × ℕ) → walk_slice s c t (before_damaged s c x t).0 ≡ w → stepped_over s c t (before_damaged s c x t) w ≡ go (before_damaged s c x (t + 1))
           → Stepped s c x t
-      by (Fine, to) f e = record { to = to; walk = f; next = sym (go_same e) }
-      by (Refused k, at) f e = go_stop (sym e)
+      by (Ok _, to) f e = record { to = to; walk = f; next = sym (go_same e) }
+      by (Err k, at) f e = go_stop (sym e)
 
   module _ (t : ℕ) (h : t < slices c.shape) where
     abbrev here : State
@@ -92,8 +91,8 @@ module _ (s : List ℕ) (c : Setting) (x : State) (fine : (stream_by s c true x)
 
     -- a slice that is not spoilt is read
     read : (z : Left) → precincts_of s c t here ≡ z → refuses z.0 ≡ false → Reads s c t here to (behind_slice c t to here.1 z)
-    read (Fine, y) e f = over_reads s c t here to y (stepped t h).walk e
-    read (Refused k, y) e f = true_false (sym f)
+    read (Ok _, y) e f = over_reads s c t here to y (stepped t h).walk e
+    read (Err k, y) e f = true_false (sym f)
 
     pub read_slice : spoilt s c x t ≡ false → slice s c t here ≡ (Fine, before_damaged s c x (t + 1))
     unfolding spoilt
@@ -105,8 +104,8 @@ module _ (s : List ℕ) (c : Setting) (x : State) (fine : (stream_by s c true x)
     lost_slice f = (stepped t h).next ∙ by (precincts_of s c t here) f
       where
         by : (z : Left) → refuses z.0 ≡ true → behind_slice c t to here.1 z ≡ (to, here.1, lose c.shape t z.1.2)
-        by (Fine, y) f = true_false f
-        by (Refused k, y) f = refl
+        by (Ok _, y) f = true_false f
+        by (Err k, y) f = refl
 
     -- the next slice stands where the declared lengths lead
     pub place_is : (before_damaged s c x (t + 1)).0 ≡ to

@@ -1,4 +1,5 @@
 -- What the steps of a slice answer, in either mode. Assumes nothing.
+use Rattle.std.specs.Prelude.{Ok, Err}
 use Prim.Native.Nat.{ℕ, ◌+◌, ◌-◌, ◌≤◌}
 use mathlib.Core.Path.{◌≡◌, refl, sym, ◌∙◌}
 use mathlib.Core.Bool.{cond}
@@ -8,8 +9,7 @@ use lib.IntN.{ℤ}
 use lib.ListN.{length}
 use Rattle.loops.specs.Run.{Turn, go}
 use Rattle.rows.specs.declared.Check.{Check}
-use Rattle.rows.specs.declared.Verdict.{Verdict}
-use Rattle.rows.specs.declared.Verdict.TheVariants.{Fine, Refused}
+use Rattle.rows.specs.Rows.{Fine, Refused, Verdict}
 use Rattle.pieces.specs.declared.Bytes.{Bytes}
 use Rattle.pieces.specs.Pieces.{Piece, Markers, Spoilt, bytes_of, nothing, bytes_by, plus}
 use Rattle.pieces.proofs.Laws.{bytes_first, refused_bytes}
@@ -52,14 +52,14 @@ module _ (c : Setting) (t from to : ℕ) (tops : List ℕ) (r : Reading) (cells 
 
 module _ (s : List ℕ) (c : Setting) (t : ℕ) (x : State) where
   ends_inside : (to : ℕ) (v : Verdict) (y : State) → to ≤ length s → (v ≡ Fine → y.0 ≤ length s) → (behind_slice c t to x.1 (v, y)).0 ≤ length s
-  ends_inside to Fine y h inside = inside refl
-  ends_inside to (Refused k) y h inside = h
+  ends_inside to (Ok _) y h inside = inside refl
+  ends_inside to (Err k) y h inside = h
 
   -- the pieces of a slice that is read, and of one that is spoilt
   behind_has : (to : ℕ) → walk_slice s c t x.0 ≡ (Fine, to) → (left : Left) → precincts_of s c t x ≡ left → {b : Bytes} → b ≡ bytes_by left.0 (bytes_of (slice_pieces s c t x))
       → behind_bytes left.0 (x.0 + slice_header_bytes) to b ≡ bytes_of (damaged_pieces s c t x)
-  behind_has to w (Fine, y) e h = h ∙ (λ i. bytes_of (cond (refuses (sym e i).0) (spoilt_pieces s c t x.0) (slice_pieces s c t x)))
-  behind_has to w (Refused k, y) e h =
+  behind_has to w (Ok _, y) e h = h ∙ (λ i. bytes_of (cond (refuses (sym e i).0) (spoilt_pieces s c t x.0) (slice_pieces s c t x)))
+  behind_has to w (Err k, y) e h =
       sym (spoilt_bytes s c t x.0 to w) ∙ (λ i. bytes_of (cond (refuses (sym e i).0) (spoilt_pieces s c t x.0) (slice_pieces s c t x)))
 
   -- the walk leads to `to`, and the precincts with the slice's header leave r

@@ -1,4 +1,5 @@
 -- The verdict of a damaged page is that of the walk by declared lengths, whatever stands in the precincts; and an accepted page is left as it is. Assumes nothing.
+use Rattle.std.specs.Prelude.{Ok, Err}
 use Prim.Native.Nat.{ℕ, ◌+◌, ◌≤◌, ◌<◌}
 use mathlib.Core.Path.{◌≡◌, refl, sym, ◌∙◌}
 use mathlib.Core.Bool.{true, false}
@@ -10,9 +11,7 @@ use Rattle.loops.specs.Before.{before}
 use Rattle.loops.proofs.Laws.{Going, begins, goes_on, stops, ends, Kept, run_carries}
 use Rattle.loops.proofs.Before.{before_carries}
 use Rattle.loops.proofs.Follows.{stop_same, go_stop, run_follows}
-use Rattle.rows.specs.Rows.{first, answer}
-use Rattle.rows.specs.declared.Verdict.{Verdict}
-use Rattle.rows.specs.declared.Verdict.TheVariants.{Fine, Refused}
+use Rattle.rows.specs.Rows.{first, answer, Fine, Verdict}
 use Rattle.rows.proofs.Sites.{Inside}
 use Rattle.layout.specs.Precincts.{slices}
 use Rattle.packets.specs.declared.Setting.{Setting}
@@ -50,8 +49,8 @@ module _ (s : List ℕ) (c : Setting) where
 
       by : (t : ℕ) (y : State) → t < slices c.shape → Walking t y.0 → (w : Verdict × ℕ) → walk_slice s c t y.0 ≡ w
           → Kept (λ (z : State). Walking (t + 1) z.0) Alike (stepped_over s c t y w)
-      by t y l g (Fine, to) e = rw (behind_place s c t to y e) (goes_on g l (λ i. walked_on (e i)))
-      by t y l g (Refused k, at) e =
+      by t y l g (Ok _, to) e = rw (behind_place s c t to y e) (goes_on g l (λ i. walked_on (e i)))
+      by t y l g (Err k, at) e =
           let q = stops g l (λ i. walked_on (e i)) in
           ((λ i. (sym q i).0), λ f. clash f)
 
@@ -78,8 +77,8 @@ module _ (s : List ℕ) (c : Setting) where
   sound t x y e = by (first (slice_checks s t x.0)) e
     where
       by : (v : Verdict) → precincts_by s c t v x ≡ (Fine, y) → Sound t x y
-      by Fine f = record { reads = f; turn = (λ i. stepped_over s c t x (slice_walks s c t x y e i)) ∙ (λ i. go (behind_slice c t y.0 x.1 (f i))) }
-      by (Refused k) f = clash (λ i. (f i).0)
+      by (Ok _) f = record { reads = f; turn = (λ i. stepped_over s c t x (slice_walks s c t x y e i)) ∙ (λ i. go (behind_slice c t y.0 x.1 (f i))) }
+      by (Err k) f = clash (λ i. (f i).0)
 
   module _ (x y : State) (e : stream s c x ≡ (Fine, y)) where
     pub damaged_same : stream_by s c true x ≡ (Fine, y)
@@ -89,12 +88,12 @@ module _ (s : List ℕ) (c : Setting) where
         (λ t z l p. never (slice s c t z)) (λ t left z w l p f g. (goes t z w (slice s c t z) refl f, tt)) (slices c.shape) 0 x (omega arith) tt e
       where
         never : {A : Type 0} (r : Left) → sliced r ≡ stop (Fine, y) → A
-        never (Fine, z) f = go_stop f
-        never (Refused k, z) f = clash (λ i. (stop_same f i).0)
+        never (Ok _, z) f = go_stop f
+        never (Err k, z) f = clash (λ i. (stop_same f i).0)
 
         goes : (t : ℕ) (z w : State) (r : Left) → slice s c t z ≡ r → sliced r ≡ go w → damaged_turn s c t z ≡ go w
-        goes t z w (Fine, u) q f = (sound t z u q).turn ∙ f
-        goes t z w (Refused k, u) q f = go_stop (sym f)
+        goes t z w (Ok _, u) q f = (sound t z u q).turn ∙ f
+        goes t z w (Err k, u) q f = go_stop (sym f)
 
     abbrev fine : (stream s c x).0 ≡ Fine
     fine = λ i. (e i).0

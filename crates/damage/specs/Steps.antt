@@ -1,9 +1,7 @@
 -- What the steps of the slices' loop answer.
-use Rattle.std.specs.Prelude.{List, [], ◌∷◌, ◌↔◌, ◌≡◌, ℕ, ◌+◌, ◌-◌, ◌≤◌, ◌<◌, ℤ, pos, negsuc, length}
+use Rattle.std.specs.Prelude.{List, [], ◌∷◌, ◌↔◌, ◌≡◌, ℕ, ◌+◌, ◌-◌, ◌≤◌, ◌<◌, ℤ, pos, negsuc, length, Ok, Err}
 use Rattle.whole.specs.Cells.{cell}
-use Rattle.rows.specs.Rows.{first}
-use Rattle.rows.specs.declared.Verdict.{Verdict}
-use Rattle.rows.specs.declared.Verdict.TheVariants.{Fine, Refused}
+use Rattle.rows.specs.Rows.{first, Fine, Verdict}
 use Rattle.pieces.specs.Pieces.{Piece, Markers, Spoilt, bytes_of, bytes_by, plus}
 use Rattle.pieces.specs.declared.Bytes.{Bytes}
 use Rattle.layout.specs.declared.Shape.{Shape}
@@ -14,7 +12,7 @@ use Rattle.slices.specs.Slice.{State, Left, slice_header_bytes}
 use Rattle.slices.specs.Stream.{end_checks}
 use Rattle.slices.specs.Pieces.{end_pieces}
 use Rattle.slices.specs.declared.Reading.{Reading}
-use Rattle.damage.specs.declared.lost.Rows.{Rows}
+use Rattle.std.specs.declared.ops.Range.{Range}
 
 -- a reading that goes on from a state, and where the bytes went of what is behind it
 pub record Onward (x : State) (b : Bytes) (r : Reading) (cells' : List ℤ) : Type 0 where
@@ -25,8 +23,8 @@ pub record Onward (x : State) (b : Bytes) (r : Reading) (cells' : List ℤ) : Ty
 -- behind slice t, whose precincts have a verdict: the bytes of a slice that is read or, where one of them is refused, of one whose precincts stand from a place
 -- on, and before another
 abbrev pub behind_bytes : Verdict → ℕ → ℕ → Bytes → Bytes
-behind_bytes Fine from to bytes = bytes
-behind_bytes (Refused k) from to bytes = bytes_of ((Markers, slice_header_bytes) ∷ (Spoilt, to - from) ∷ [])
+behind_bytes (Ok _) from to bytes = bytes
+behind_bytes (Err k) from to bytes = bytes_of ((Markers, slice_header_bytes) ∷ (Spoilt, to - from) ∷ [])
 
 -- behind the last slice
 pub record IsEnd (s : List ℕ) (place : ℕ) (most : List ℕ) (b : Bytes) (r : Reading) : Type 0 where
@@ -58,10 +56,10 @@ abbrev pub LostNumbers : Shape → List ℤ → List ℤ → Type 0
 LostNumbers s = LostNumbersBefore s s.nc
 
 -- r has the rows of component i that slice t has
-pub record IsRows (s : Shape) (i t : ℕ) (r : Rows) : Type 0 where
-  pub ordered : r.from ≤ r.to
-  pub inside : r.to ≤ Hc s i
-  pub has : (Y : ℕ) → Y < Hc s i → (slice_of_row s i Y ≡ t) ↔ ((r.from ≤ Y) × (Y < r.to))
+pub record IsRows (s : Shape) (i t : ℕ) (r : Range ℕ) : Type 0 where
+  pub ordered : r.start ≤ r.end
+  pub inside : r.end ≤ Hc s i
+  pub has : (Y : ℕ) → Y < Hc s i → (slice_of_row s i Y ≡ t) ↔ ((r.start ≤ Y) × (Y < r.end))
 
 -- l' is l with the value v from `from` on and before `to`
 pub record Stretched (from to : ℕ) (v : ℤ) (l l' : List ℤ) : Type 0 where

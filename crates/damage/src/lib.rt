@@ -39,12 +39,12 @@ fn behind_slice(
 {
     let v = r.verdict;
     match v {
-        Verdict::Fine => r,
-        Verdict::Refused(_) => {
+        Ok(()) => r,
+        Err(_) => {
             lose(cells, c.shape, t);
             let header = Bytes::of_markers(6);
             Reading {
-                verdict: Verdict::Fine,
+                verdict: Ok(()),
                 at: to,
                 tops: tops,
                 bytes: header.and(Bytes::of_spoilt(to - from)),
@@ -68,12 +68,12 @@ fn stepped_over(
     ensures { Turned s.now (stepped_over s.now c t (at, tops, cells.old) (v, to)) (damaged_pieces s.now c t (at, tops, cells.old)) result cells.new }
 {
     match v {
-        Verdict::Fine => {
+        Ok(()) => {
             let from = at + 6;
             let r = with_header(all_precincts(s, cells, c, t, from, tops));
             behind_slice(r, cells, c, t, from, to, tops)
         }
-        Verdict::Refused(_) => stopped(v, at, tops),
+        Err(_) => stopped(v, at, tops),
     }
 }
 
@@ -146,23 +146,21 @@ pub fn stream(
     let mut place = at;
     let mut most = tops;
     let mut bytes = NOTHING;
-    let mut t = 0;
-    while t < count {
+    for t in 0..count {
         let r = slice(damaged, s, cells, c, t, place, most);
         let v = r.verdict;
         place = r.at;
         let raised = r.tops;
         most = raised;
         match v {
-            Verdict::Fine => {
+            Ok(()) => {
                 let more = r.bytes;
                 bytes = bytes.and(more);
             }
-            Verdict::Refused(_) => {
+            Err(_) => {
                 return stopped(v, place, most);
             }
         }
-        t += 1;
     }
     behind_all(s, place, most, bytes)
 }

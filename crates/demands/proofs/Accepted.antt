@@ -1,4 +1,5 @@
 -- A page that is read: what the answer 0 says of the stream, of the record and of the samples. Assumes nothing.
+use Rattle.std.specs.Prelude.{Ok, Err}
 use mathlib.Core.Path.{◌≡◌, refl, sym, ap, ◌∙◌}
 use mathlib.Core.Bool.{Bool, true, false, cond}
 use mathlib.Core.List.{List, [], ◌++◌}
@@ -7,10 +8,8 @@ use native.Mathlib.Omega.{arith}
 use lib.IntN.{ℤ}
 use lib.ListN.{length, get_or, drop, get_or-append}
 use lib.Seq.{get_or-append-add, get_or-drop}
-use Rattle.rows.specs.Rows.{first, then, answer}
+use Rattle.rows.specs.Rows.{first, then, answer, Fine, Verdict}
 use Rattle.rows.specs.declared.Check.{Check}
-use Rattle.rows.specs.declared.Verdict.{Verdict}
-use Rattle.rows.specs.declared.Verdict.TheVariants.{Fine, Refused}
 use Rattle.rows.proofs.Tables.{then_fine, answer_fine}
 use Rattle.pieces.specs.Pieces.{bytes_of}
 use Rattle.layout.specs.Bands.{Wc}
@@ -115,8 +114,8 @@ page_in {damaged} {s} {a} {a'} {m} {m'} {w} {w'} {r} q zero =
 -- ---- a plain reading is one that is lent no marks
 
 unmarked : (v : Verdict) → ◌≡◌ {A = List ℕ} [] (samples_by v [] [])
-unmarked Fine = refl
-unmarked (Refused c) = refl
+unmarked (Ok _) = refl
+unmarked (Err c) = refl
 
 pub plain_in : {s a a' : List ℕ} {w w' : List ℤ} {r : Page} → Reads s a w r a' w' → ReadsIn false s a w [] r a' w' []
 unfolding lent_verdict_in verdict_of decoded_by stream_by lent_verdict verdict decoded stream pieces_in stream_pieces_by pieces stream_pieces

@@ -10,8 +10,7 @@ use mathlib.Core.Logic.{inl}
 use Rattle.whole.proofs.Linear.{flags_differ}
 use Rattle.bits.proofs.Alike.{alike_part}
 use Rattle.bits.proofs.Headers.{whole_bytes}
-use Rattle.rows.specs.Rows.{answer, first, then}
-use Rattle.rows.specs.declared.Verdict.TheVariants.{Fine}
+use Rattle.rows.specs.Rows.{answer, first, then, Fine}
 use Rattle.layout.specs.Bands.{Wc}
 use Rattle.layout.specs.Cells.{samples}
 use Rattle.layout.specs.Precincts.{slices}

@@ -1,4 +1,5 @@
 -- Where the bytes went: each total is that of the pieces of its kind, they add up to the stream's length, and a refusal tells none. Assumes nothing.
+use Rattle.std.specs.Prelude.{Ok, Err}
 use mathlib.Core.Bool.{Bool, true, false}
 use mathlib.Core.List.{List}
 use mathlib.Core.Path.{◌≡◌, refl, sym, ap, ◌∙◌}
@@ -7,10 +8,8 @@ use native.Mathlib.Decide.{ℕ_discrete}
 use native.Mathlib.Omega.{arith}
 use lib.IntN.{ℤ}
 use lib.ListN.{length}
-use Rattle.rows.specs.Rows.{answer, first, then}
+use Rattle.rows.specs.Rows.{answer, first, then, Fine, Verdict}
 use Rattle.rows.specs.declared.Check.{Check}
-use Rattle.rows.specs.declared.Verdict.{Verdict}
-use Rattle.rows.specs.declared.Verdict.TheVariants.{Fine, Refused}
 use Rattle.rows.proofs.Tables.{then_fine}
 use Rattle.pieces.specs.declared.Bytes.{Bytes}
 use Rattle.pieces.specs.Pieces.{Kind, Markers, Precincts, Packets, Significance, Counts, Data, Signs, Filler, Spoilt, Piece, total, size, bytes_of, nothing, all}
@@ -60,8 +59,8 @@ told_most Spoilt b = omega arith
 
 -- a refused page tells nothing
 told_none : (v : Verdict) (h : Header) (d : List ℕ) (b : Bytes) → (answer v ≡ 0 → ⊥) → (page_by v h d b).bytes ≡ nothing
-told_none Fine h d b some = absurd (some refl)
-told_none (Refused c) h d b some = refl
+told_none (Ok _) h d b some = absurd (some refl)
+told_none (Err c) h d b some = refl
 
 -- ---- the pieces of a stream that is read
 

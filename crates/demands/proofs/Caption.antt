@@ -1,4 +1,5 @@
 -- The record's yes holds exactly on a page that is read and has a bench caption. Assumes nothing.
+use Rattle.std.specs.Prelude.{Ok, Err}
 use mathlib.Core.Bool.{true}
 use mathlib.Core.List.{List}
 use mathlib.Core.Logic.{◌↔◌}
@@ -6,9 +7,7 @@ use mathlib.Core.Path.{◌≡◌, refl, sym, ap, ◌∙◌}
 use Prim.Native.Nat.{ℕ}
 use lib.IntN.{ℤ}
 use lib.ListN.{length}
-use Rattle.rows.specs.Rows.{answer}
-use Rattle.rows.specs.declared.Verdict.{Verdict}
-use Rattle.rows.specs.declared.Verdict.TheVariants.{Fine, Refused}
+use Rattle.rows.specs.Rows.{answer, Refused, Verdict}
 use Rattle.rows.proofs.Tables.{answer_fine, refused_fine}
 use Rattle.pieces.specs.declared.Bytes.{Bytes}
 use Rattle.pieces.specs.Pieces.{bytes_of}
@@ -24,8 +23,8 @@ use Rattle.demands.proofs.Accepted.{answer_of, header_fine}
 
 -- the header's yes, where nothing is refused
 told_by : (v : Verdict) (h : Header) (d : List ℕ) (b : Bytes) → ((page_by v h d b).caption ≡ true) ↔ ((answer v ≡ 0) × (h.caption ≡ true))
-told_by Fine h d b = (λ e. (refl, e), λ p. p.1)
-told_by (Refused c) h d b = (λ e. clash (sym e), λ p. refused_fine (answer_fine (Refused c) p.0))
+told_by (Ok _) h d b = (λ e. (refl, e), λ p. p.1)
+told_by (Err c) h d b = (λ e. clash (sym e), λ p. refused_fine (answer_fine (Refused c) p.0))
 
 pub caption_told : {s a a' : List ℕ} {w w' : List ℤ} {r : Page} → Reads s a w r a' w' → CaptionTold s r
 caption_told {s} {a} {w = w} {r = r} reads = (

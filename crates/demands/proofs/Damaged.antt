@@ -1,4 +1,5 @@
 -- The customer's demands hold of every damaged page, of its samples marked 0. Assumes nothing.
+use Rattle.std.specs.Prelude.{Ok, Err}
 use mathlib.Core.Path.{◌≡◌, refl, sym, ap, ◌∙◌}
 use mathlib.Core.Bool.{Bool, true, false}
 use mathlib.Core.List.{List, ◌++◌}
@@ -6,10 +7,8 @@ use Prim.Native.Nat.{ℕ, ◌*◌, ◌≤◌, ◌<◌}
 use native.Mathlib.Omega.{arith}
 use lib.IntN.{ℤ, pos}
 use lib.ListN.{length, get_or, drop, length-replicate, get_or-append}
-use Rattle.rows.specs.Rows.{answer, first, then}
+use Rattle.rows.specs.Rows.{answer, first, then, Fine, Verdict}
 use Rattle.rows.specs.declared.Check.{Check}
-use Rattle.rows.specs.declared.Verdict.{Verdict}
-use Rattle.rows.specs.declared.Verdict.TheVariants.{Fine, Refused}
 use Rattle.rows.proofs.Low.{Low, low}
 use Rattle.layout.specs.Precincts.{slices}
 use Rattle.layout.proofs.Cells.{inside}
@@ -50,8 +49,8 @@ use Rattle.demands.proofs.Exact.{distances_none}
 -- ---- demand 1
 
 few_then : (v w : Verdict) → answer v ≤ 6 → answer w ≤ 6 → answer (then v w) ≤ 6
-few_then Fine w p q = q
-few_then (Refused c) w p q = p
+few_then (Ok _) w p q = q
+few_then (Err c) w p q = p
 
 pub judged_few : (s : List ℕ) (room : List Check) → Low room → answer (judged true s room) ≤ 6
 unfolding decoded_by

@@ -6,7 +6,7 @@ use Prim.Native.Nat.{ℕ}
 use native.Mathlib.Omega.{arith}
 use lib.IntN.{ℤ}
 use lib.ListN.{get_or}
-use Rattle.rows.specs.declared.Verdict.TheVariants.{Fine}
+use Rattle.rows.specs.Rows.{Fine}
 use Rattle.slices.proofs.Largest.{tops_most}
 use Rattle.distances.proofs.Rules.{distances_exact}
 use Rattle.reader.specs.declared.page.Page.{Page}

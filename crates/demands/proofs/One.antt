@@ -1,4 +1,5 @@
 -- Demand 1 holds of every reading: the answer is a number of document 01 with a place in the stream, and a refused page leaves the samples. Assumes nothing.
+use Rattle.std.specs.Prelude.{Ok, Err}
 use mathlib.Core.Path.{◌≡◌, refl, sym, ◌∙◌, subst}
 use mathlib.Core.Bool.{Bool, true, false}
 use mathlib.Core.List.{List}
@@ -6,10 +7,8 @@ use Prim.Native.Nat.{ℕ, ◌≤◌}
 use native.Mathlib.Omega.{arith}
 use lib.IntN.{ℤ}
 use lib.ListN.{length}
-use Rattle.rows.specs.Rows.{answer, first, then}
+use Rattle.rows.specs.Rows.{answer, first, then, Fine, Verdict}
 use Rattle.rows.specs.declared.Check.{Check}
-use Rattle.rows.specs.declared.Verdict.{Verdict}
-use Rattle.rows.specs.declared.Verdict.TheVariants.{Fine, Refused}
 use Rattle.rows.proofs.Tables.{then_fine, answer_most}
 use Rattle.rows.proofs.Sites.{Inside, sited, inside_then, Standing, standing}
 use Rattle.pieces.specs.declared.Bytes.{Bytes}
@@ -52,12 +51,12 @@ module _ (damaged : Bool) (s : List ℕ) where
 
 -- the record's place: Lcod, which is the stream's length, or the broken check's
 page_place : (s : List ℕ) (v : Verdict) (h : Header) (d : List ℕ) (b : Bytes) → Inside (length s) v → (v ≡ Fine → h.picture.lcod ≡ length s) → (page_by v h d b).place ≤ length s
-page_place s Fine h d b i e = omega (arith, e refl)
-page_place s (Refused c) h d b i e = i
+page_place s (Ok _) h d b i e = omega (arith, e refl)
+page_place s (Err c) h d b i e = i
 
 pub left : (v : Verdict) (new a : List ℕ) → (answer v ≡ 0 → ⊥) → samples_by v new a ≡ a
-left Fine new a some = absurd (some refl)
-left (Refused c) new a some = refl
+left (Ok _) new a some = absurd (some refl)
+left (Err c) new a some = refl
 
 -- what both modes have in common, by any verdicts
 module _ {damaged : Bool} {s : List ℕ} {lent all : Verdict} {a : List ℕ} {w : List ℤ} {m : List ℕ} {r : Page} {a' : List ℕ} {w' : List ℤ} {m' : List ℕ}

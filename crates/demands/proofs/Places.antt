@@ -1,4 +1,5 @@
 -- A reading with a plane of distances: beside the plane it leaves what a reading without it leaves, and the plane keeps the customer's demands. Assumes nothing.
+use Rattle.std.specs.Prelude.{Ok, Err}
 use mathlib.Core.Path.{◌≡◌, refl, sym, ap, ◌∙◌, subst}
 use mathlib.Core.Bool.{Bool, true, false, cond}
 use mathlib.Core.List.{List, [], ◌∷◌, ◌++◌}
@@ -7,12 +8,10 @@ use native.Mathlib.Omega.{arith}
 use borrow.Author.Tests.{lt-ltb}
 use lib.IntN.{ℤ}
 use lib.ListN.{length, get_or, drop}
-use Rattle.rows.specs.Rows.{answer, check, ample, first, then}
+use Rattle.rows.specs.Rows.{answer, check, ample, first, then, Fine, Refused, Verdict}
 use Rattle.rows.specs.declared.Check.{Check}
 use Rattle.rows.specs.declared.Row.TheVariants.{Lent}
 use Rattle.rows.specs.declared.Field.TheVariants.{Marks, Distances}
-use Rattle.rows.specs.declared.Verdict.{Verdict}
-use Rattle.rows.specs.declared.Verdict.TheVariants.{Fine, Refused}
 use Rattle.rows.proofs.Tables.{then_fine, first_append, answer_most}
 use Rattle.rows.proofs.Sites.{Standing}
 use Rattle.pieces.specs.Pieces.{bytes_of}
@@ -57,8 +56,8 @@ abbrev plane_check : List ℕ → ℕ → Check
 plane_check s d = check Lent (header_of s).slice Distances d (N (header_of s)) ample
 
 then_all : (v : Verdict) → then v Fine ≡ v
-then_all Fine = refl
-then_all (Refused c) = refl
+then_all (Ok _) = refl
+then_all (Err c) = refl
 
 module _ (damaged : Bool) (s : List ℕ) (a w m d : ℕ) where
   lent_with : lent_verdict_by damaged true s a w m d ≡ then (lent_verdict_in damaged s a w m) (first (plane_check s d ∷ []))

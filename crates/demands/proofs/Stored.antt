@@ -9,7 +9,7 @@ use lib.ListN.{length, get_or, length-replicate}
 use lib.Pow.{pow_mono}
 use Rattle.whole.specs.Cells.{cell}
 use Rattle.loops.specs.Before.{before}
-use Rattle.rows.specs.declared.Verdict.TheVariants.{Fine}
+use Rattle.rows.specs.Rows.{Fine}
 use Rattle.quantiser.specs.Inverse.{coefficient_of, scaled, Carried}
 use Rattle.quantiser.proofs.Laws.{coefficient_small, index_back, coefficient_one, scaled_one}
 use Rattle.wavelet.specs.Transform.{Kind}

@@ -8,7 +8,7 @@ use lib.IntN.{ℤ}
 use lib.ListN.{get_or}
 use Rattle.whole.specs.Numbers.{Within, Near}
 use Rattle.whole.proofs.Within.{within_swap}
-use Rattle.rows.specs.declared.Verdict.TheVariants.{Fine}
+use Rattle.rows.specs.Rows.{Fine}
 use Rattle.quantiser.specs.Inverse.{scaled}
 use Rattle.quantiser.specs.Forward.{index_of}
 use Rattle.quantiser.specs.Distance.{band_number}

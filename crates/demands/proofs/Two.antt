@@ -1,4 +1,5 @@
 -- Demand 2 holds of every reading: the table decides between read and refused, and each sample is the standard's. Assumes nothing.
+use Rattle.std.specs.Prelude.{Ok, Err}
 use mathlib.Core.Path.{◌≡◌, refl, sym, ap, ◌∙◌, subst}
 use mathlib.Core.Bool.{Bool}
 use mathlib.Core.List.{List, ◌++◌}
@@ -6,11 +7,9 @@ use mathlib.Core.Logic.{◌↔◌}
 use Prim.Native.Nat.{ℕ}
 use lib.IntN.{ℤ}
 use lib.ListN.{length}
-use Rattle.rows.specs.Rows.{answer, first, then}
+use Rattle.rows.specs.Rows.{answer, first, then, Fine, Verdict}
 use Rattle.rows.specs.declared.Check.{Check}
 use Rattle.rows.specs.Tables.{Unbroken}
-use Rattle.rows.specs.declared.Verdict.{Verdict}
-use Rattle.rows.specs.declared.Verdict.TheVariants.{Fine, Refused}
 use Rattle.rows.proofs.Tables.{first_append, fine_iff, first_breaks}
 use Rattle.pieces.specs.declared.Bytes.{Bytes}
 use Rattle.header.specs.Header.{reading_of}
@@ -39,8 +38,8 @@ use Rattle.demands.proofs.Stored.{coefficient_is, plain_leads, plain_reads}
 -- ---- the verdict is that of the table
 
 pub then_again : (u v w : Verdict) → then (then u v) w ≡ then u (then v w)
-then_again Fine v w = refl
-then_again (Refused c) v w = refl
+then_again (Ok _) v w = refl
+then_again (Err c) v w = refl
 
 -- of the header, of row 5 and of what stands behind it
 pub joined_tables : (s : List ℕ) (room behind : List Check) {v : Verdict} → v ≡ first behind → then (then (reading_of s).verdict (first room)) v ≡ first (header_checks s ++ (room ++ behind))
@@ -57,8 +56,8 @@ table_verdict s a w = joined_tables s (room_checks (header_of s) a w) (stream_ch
 -- ---- and so is the answer
 
 decided : (t : List Check) (v : Verdict) (h : Header) (d : List ℕ) (b : Bytes) → v ≡ first t → (answer v ≡ 0 → ⊥) → Decided t (page_by v h d b)
-decided t Fine h d b e no0 = absurd (no0 refl)
-decided t (Refused c) h d b e no0 = record { check = c; first_broken = (first_breaks t c).0 (sym e); answer = refl; place = refl }
+decided t (Ok _) h d b e no0 = absurd (no0 refl)
+decided t (Err c) h d b e no0 = record { check = c; first_broken = (first_breaks t c).0 (sym e); answer = refl; place = refl }
 
 module _ {damaged : Bool} {s : List ℕ} {lent all : Verdict} {a : List ℕ} {w : List ℤ} {m : List ℕ} {r : Page} {a' : List ℕ} {w' : List ℤ} {m' : List ℕ}
     (leaves : LeavesIn damaged s (header_of s) lent all a w m r a' w' m') (t : List Check) (by_table : all ≡ first t) where

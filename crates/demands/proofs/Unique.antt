@@ -4,7 +4,7 @@ use mathlib.Core.Bool.{Bool}
 use mathlib.Core.List.{List}
 use Prim.Native.Nat.{ℕ}
 use lib.IntN.{ℤ}
-use Rattle.rows.specs.declared.Verdict.{Verdict}
+use Rattle.rows.specs.Rows.{Verdict}
 use Rattle.header.specs.declared.header.Header.{Header}
 use Rattle.reader.specs.Page.{Reads}
 use Rattle.reader.specs.Modes.{LeavesIn, ReadsDamaged}

@@ -7,8 +7,7 @@ use native.Mathlib.Omega.{arith}
 use lib.IntN.{ℤ}
 use lib.ListN.{length, drop, replicate, length-replicate, get_or-replicate}
 use lib.Seq.{ext_get_or}
-use Rattle.rows.specs.Rows.{check, ample, first, then}
-use Rattle.rows.specs.declared.Verdict.TheVariants.{Fine}
+use Rattle.rows.specs.Rows.{check, ample, first, then, Fine}
 use Rattle.rows.specs.declared.Row.TheVariants.{Lent}
 use Rattle.rows.specs.declared.Field.TheVariants.{Marks}
 use Rattle.rows.proofs.Tables.{then_fine, first_append}

@@ -1,14 +1,13 @@
 -- The reason that `judge` and `why` give is the first broken check of document 01's table, and there is no other. Assumes nothing.
+use Rattle.std.specs.Prelude.{Ok, Err}
 use mathlib.Core.Path.{◌≡◌, refl, sym, ◌∙◌}
 use mathlib.Core.Bool.{Bool, true, false}
 use mathlib.Core.List.{List}
 use Prim.Native.Nat.{ℕ}
 use lib.IntN.{ℤ}
 use lib.ListN.{length}
-use Rattle.rows.specs.Rows.{first}
+use Rattle.rows.specs.Rows.{first, Verdict}
 use Rattle.rows.specs.declared.Check.{Check}
-use Rattle.rows.specs.declared.Verdict.{Verdict}
-use Rattle.rows.specs.declared.Verdict.TheVariants.{Fine, Refused}
 use Rattle.rows.proofs.Tables.{fine_iff, first_breaks}
 use Rattle.pieces.specs.declared.Bytes.{Bytes}
 use Rattle.header.specs.declared.header.Header.{Header}
@@ -40,9 +39,9 @@ verdict_table true placed s a w m d =
     joined_tables s (room_checks_by true placed (header_of s) a w m d) (walk_table s (setting s) (header_of s).slice) (damaged_table s (setting s) (beginning s))
 
 reason_by : (t : List Check) (v : Verdict) (h : Header) (d : List ℕ) (b : Bytes) → v ≡ first t → Reason t v h.picture.lcod (page_by v h d b)
-reason_by t Fine h d b e =
+reason_by t (Ok _) h d b e =
     record { accepted = (λ f. (fine_iff t).0 (sym e), λ u. refl); refused = λ c f. (first_breaks t c).0 (sym e ∙ f); answer_is = refl; place_is = refl }
-reason_by t (Refused k) h d b e =
+reason_by t (Err k) h d b e =
     record {
       accepted = (λ f. (fine_iff t).0 (sym e ∙ f), λ u. e ∙ (fine_iff t).1 u);
       refused = λ c f. (first_breaks t c).0 (sym e ∙ f);

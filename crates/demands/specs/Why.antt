@@ -1,11 +1,9 @@
 -- Document 02, C-19: 'The rule printed is really broken by the bytes there, and nothing earlier in the checking order is broken.' `judge` answers the verdict that
 -- these speak of, in each of the four ways of reading; `why` the plain one's.
 use Rattle.std.specs.Prelude.{Bool, cond, List, ◌++◌, ◌↔◌, ◌≡◌, ℕ}
-use Rattle.rows.specs.Rows.{answer, place_of}
+use Rattle.rows.specs.Rows.{answer, place_of, Fine, Refused, Verdict}
 use Rattle.rows.specs.declared.Check.{Check}
 use Rattle.rows.specs.Tables.{Unbroken, FirstBroken}
-use Rattle.rows.specs.declared.Verdict.{Verdict}
-use Rattle.rows.specs.declared.Verdict.TheVariants.{Fine, Refused}
 use Rattle.header.specs.Table.{header_checks}
 use Rattle.slices.specs.Table.{stream_checks}
 use Rattle.slices.specs.Walk.{walk_table}

@@ -12,7 +12,7 @@ ghost use Rattle.layout.specs.Built.{Built};
 ghost use Rattle.distances.specs.Rule.{type_of, number_of, component_number_of, coloured_number, of_four, distances_of, Stated};
 ghost use Rattle.distances.specs.Steps.{across_turn, both_turn, Numbered, EachBelow};
 
-use colour::Numbers;
+use colour::Pixel;
 use layout::Shape;
 use layout::bands::component_of;
 
@@ -30,7 +30,7 @@ fn joined(a: u64, h: u64) -> u64
     requires { (a < 2 ^ 60) × (h < 2 ^ 60) }
     ensures { result ≡ joined a h }
 {
-    a + h + (h + 1) / 2
+    a + h + h.div_ceil(2)
 }
 
 // The filter type HL at depth d across.
@@ -50,11 +50,9 @@ fn across_numbers(s: Shape, fq: usize, tops: [usize; 40], i: usize, ny: usize) -
     ensures { (result ≡ down (across_turn s fq tops i ny) ny (s.nlx - ny) (number_of s fq tops i LL s.nlx ny)) × (result < 2 ^ 52) }
 {
     let mut low = number_of(s, fq, tops, i, 0);
-    let mut d = s.nlx;
-    while ny < d {
+    for d in (ny + 1..=s.nlx).rev() {
         let hl = number_of(s, fq, tops, i, type_across(s, d));
         low = joined(low, hl);
-        d -= 1;
     }
     low
 }
@@ -77,10 +75,8 @@ fn both_numbers(s: Shape, fq: usize, tops: [usize; 40], i: usize, ny: usize, fir
     ensures { result ≡ down (both_turn s fq tops i) 0 ny first }
 {
     let mut low = first;
-    let mut d = ny;
-    while 0 < d {
+    for d in (1..=ny).rev() {
         low = both_number(s, fq, tops, i, d, low);
-        d -= 1;
     }
     low
 }
@@ -102,11 +98,9 @@ fn component_numbers(s: Shape, fq: usize, tops: [usize; 40]) -> [u64; 4]
     requires { Numbered s fq tops }
     ensures { result ≡ of_four s.nc (component_number_of s fq tops) }
 {
-    let mut e: [u64; 4] = [0; 4];
-    let mut i = 0;
-    while i < 4 {
-        e[i] = component_number(s, fq, tops, i);
-        i += 1;
+    let mut e = [0; 4];
+    for (i, n) in e.iter_mut().enumerate() {
+        *n = component_number(s, fq, tops, i);
     }
     e
 }
@@ -117,7 +111,7 @@ fn coloured_numbers(e: [u64; 4], cpih: usize) -> [u64; 4]
     ensures { result ≡ listed 4 (coloured_number cpih (λ i. get_or e i 0)) }
 {
     if cpih == 1 {
-        let r = colour::numbers_rct(Numbers {
+        let r = colour::numbers_rct(Pixel {
             c0: e[0],
             c1: e[1],
             c2: e[2],
@@ -151,11 +145,9 @@ pub fn distances(
     ensures { result ≡ distances_of s fq cpih bw (λ i. get_or depth i 0) tops }
 {
     let e = coloured_numbers(component_numbers(s, fq, tops), cpih);
-    let mut r: [usize; 4] = [0; 4];
-    let mut i = 0;
-    while i < 4 {
-        r[i] = distance_at(s.nc, i, e[i], bw, depth[i]);
-        i += 1;
+    let mut r = [0; 4];
+    for (i, d) in r.iter_mut().enumerate() {
+        *d = distance_at(s.nc, i, e[i], bw, depth[i]);
     }
     r
 }

@@ -1,4 +1,3 @@
--- The fixed list of the fields' names, which of them hold codes, and the tables that the code keeps.
+-- The fixed list of the fields' names, and which of them hold codes.
 pub mod Letters
 pub mod Names
-pub mod Tables

@@ -1,247 +1,112 @@
-// Request C-19's fixed list: the name of each field, and whether its numbers are codes. The names stand in one table, in the order of the fields, since a `match`
-// with a text in each arm is too much for one proof.
+// Request C-19's fixed list: the name of each field, and whether its numbers are codes.
 #![tactic(auto)]
 
-ghost use Rattle.std.specs.Prelude.{◌≡◌, ◌++◌, ◌+◌, ◌-◌, ◌<◌, ◌≤◌, length, get_or, drop, replicate};
-ghost use Rattle.std.proofs.Math.Seq.{paste};
+ghost use Rattle.std.specs.Prelude.{◌≡◌, ◌++◌, ◌-◌, length, replicate};
 ghost use Rattle.fields.specs.Names.{name_of, code_field, code_row, codes};
-ghost use Rattle.fields.specs.Tables.{number_of, joined, begins};
 
 use rows::{Field, Row};
 
-// All names, one behind the other.
-const LETTERS: [u8; 1332] = *b"SOC start marker\
-    CAP capabilities marker\
-    Lcap capabilities length\
-    PIH picture header marker\
-    Lpih picture header length\
-    Lcod stream length\
-    Wf width\
-    Hf height\
-    width modulo precinct column\
-    Hsl slice height\
-    Nc number of components\
-    Ng code group size\
-    Ss significance group size\
-    Bw wavelet precision\
-    Fq fractional bits\
-    Br bits of a raw count\
-    Fslc slice coding mode\
-    Ppoc progression order\
-    Cpih colour transform\
-    NLx levels across\
-    NLy levels down\
-    Qpih quantiser\
-    Fs sign handling\
-    Rm run mode\
-    marker\
-    component tables\
-    weights tables\
-    non-linear output segments\
-    CWD segments\
-    colour transform segments\
-    component registrations\
-    temporal control segments\
-    refresh weights tables\
-    temporal slice headers\
-    Lcdt component table length\
-    B component precision\
-    sx sampling across\
-    sy sampling down\
-    samples joined by a filter across\
-    samples joined by a filter down\
-    Lwgt weights table length\
-    gain\
-    Lcom extension length\
-    Tcom extension type\
-    Lcrg registration length\
-    Lcwd CWD length\
-    Sd undecomposed components\
-    sample cells\
-    work cells\
-    marks in bytes\
-    distance cells\
-    SLH slice marker\
-    Lslh slice header length\
-    Ysl slice index\
-    Lprc precinct length\
-    whole precinct in bytes\
-    Q quantisation\
-    R refinement\
-    vertical prediction bit of D\
-    packet header bytes\
-    Dr raw flag\
-    significance bytes\
-    Lcnt count bytes\
-    bitplane count\
-    one-bits of a count code\
-    Ldat data bytes\
-    Lsgn sign bytes\
-    bytes behind the last packet\
-    EOC end marker\
-    bytes behind the end marker";
-
-// Where each begins, and where the last ends.
-const BEGINS: [usize; 71] = [
-    0, 16, 39, 63, 88, 114, 132, 140, 149, 177, 193, 216, 234, 260, 280, 298, 320, 342, 364, 385,
-    402, 417, 431, 447, 458, 464, 480, 494, 520, 532, 557, 580, 605, 627, 649, 676, 697, 715, 731,
-    764, 795, 820, 824, 845, 864, 888, 903, 929, 941, 951, 965, 979, 995, 1019, 1034, 1054, 1077,
-    1091, 1103, 1131, 1150, 1161, 1179, 1195, 1209, 1233, 1248, 1263, 1291, 1305, 1332,
-];
-
-// A field's place in the tables.
-fn number_of(f: Field) -> usize
-    ensures { result ≡ number_of f }
+// The name of a field, of at most 39 letters.
+pub fn name(f: Field) -> &'static str
+    ensures { result.now ≡ name_of f }
 {
     match f {
-        Field::Soc => 0,
-        Field::Cap => 1,
-        Field::Lcap => 2,
-        Field::Pih => 3,
-        Field::Lpih => 4,
-        Field::Lcod => 5,
-        Field::Wf => 6,
-        Field::Hf => 7,
-        Field::Cw => 8,
-        Field::Hsl => 9,
-        Field::Nc => 10,
-        Field::Ng => 11,
-        Field::Ss => 12,
-        Field::Bw => 13,
-        Field::Fq => 14,
-        Field::Br => 15,
-        Field::Fslc => 16,
-        Field::Ppoc => 17,
-        Field::Cpih => 18,
-        Field::Nlx => 19,
-        Field::Nly => 20,
-        Field::Qpih => 21,
-        Field::Fs => 22,
-        Field::Rm => 23,
-        Field::Next => 24,
-        Field::Cdt => 25,
-        Field::Wgt => 26,
-        Field::Nlt => 27,
-        Field::Cwd => 28,
-        Field::Cts => 29,
-        Field::Crg => 30,
-        Field::Tpc => 31,
-        Field::Wgr => 32,
-        Field::Sli => 33,
-        Field::Lcdt => 34,
-        Field::B => 35,
-        Field::Sx => 36,
-        Field::Sy => 37,
-        Field::Across => 38,
-        Field::Down => 39,
-        Field::Lwgt => 40,
-        Field::G => 41,
-        Field::Lcom => 42,
-        Field::Tcom => 43,
-        Field::Lcrg => 44,
-        Field::Lcwd => 45,
-        Field::Sd => 46,
-        Field::Samples => 47,
-        Field::Work => 48,
-        Field::Marks => 49,
-        Field::Distances => 50,
-        Field::Slh => 51,
-        Field::Lslh => 52,
-        Field::Ysl => 53,
-        Field::Lprc => 54,
-        Field::Precinct => 55,
-        Field::Q => 56,
-        Field::R => 57,
-        Field::D => 58,
-        Field::Packet => 59,
-        Field::Dr => 60,
-        Field::Significance => 61,
-        Field::Counts => 62,
-        Field::M => 63,
-        Field::Ones => 64,
-        Field::Data => 65,
-        Field::Signs => 66,
-        Field::Rest => 67,
-        Field::Eoc => 68,
-        Field::Tail => 69,
+        Field::Soc => "SOC start marker",
+        Field::Cap => "CAP capabilities marker",
+        Field::Lcap => "Lcap capabilities length",
+        Field::Pih => "PIH picture header marker",
+        Field::Lpih => "Lpih picture header length",
+        Field::Lcod => "Lcod stream length",
+        Field::Wf => "Wf width",
+        Field::Hf => "Hf height",
+        Field::Cw => "width modulo precinct column",
+        Field::Hsl => "Hsl slice height",
+        Field::Nc => "Nc number of components",
+        Field::Ng => "Ng code group size",
+        Field::Ss => "Ss significance group size",
+        Field::Bw => "Bw wavelet precision",
+        Field::Fq => "Fq fractional bits",
+        Field::Br => "Br bits of a raw count",
+        Field::Fslc => "Fslc slice coding mode",
+        Field::Ppoc => "Ppoc progression order",
+        Field::Cpih => "Cpih colour transform",
+        Field::Nlx => "NLx levels across",
+        Field::Nly => "NLy levels down",
+        Field::Qpih => "Qpih quantiser",
+        Field::Fs => "Fs sign handling",
+        Field::Rm => "Rm run mode",
+        Field::Next => "marker",
+        Field::Cdt => "component tables",
+        Field::Wgt => "weights tables",
+        Field::Nlt => "non-linear output segments",
+        Field::Cwd => "CWD segments",
+        Field::Cts => "colour transform segments",
+        Field::Crg => "component registrations",
+        Field::Tpc => "temporal control segments",
+        Field::Wgr => "refresh weights tables",
+        Field::Sli => "temporal slice headers",
+        Field::Lcdt => "Lcdt component table length",
+        Field::B => "B component precision",
+        Field::Sx => "sx sampling across",
+        Field::Sy => "sy sampling down",
+        Field::Across => "samples joined by a filter across",
+        Field::Down => "samples joined by a filter down",
+        Field::Lwgt => "Lwgt weights table length",
+        Field::G => "gain",
+        Field::Lcom => "Lcom extension length",
+        Field::Tcom => "Tcom extension type",
+        Field::Lcrg => "Lcrg registration length",
+        Field::Lcwd => "Lcwd CWD length",
+        Field::Sd => "Sd undecomposed components",
+        Field::Samples => "sample cells",
+        Field::Work => "work cells",
+        Field::Marks => "marks in bytes",
+        Field::Distances => "distance cells",
+        Field::Slh => "SLH slice marker",
+        Field::Lslh => "Lslh slice header length",
+        Field::Ysl => "Ysl slice index",
+        Field::Lprc => "Lprc precinct length",
+        Field::Precinct => "whole precinct in bytes",
+        Field::Q => "Q quantisation",
+        Field::R => "R refinement",
+        Field::D => "vertical prediction bit of D",
+        Field::Packet => "packet header bytes",
+        Field::Dr => "Dr raw flag",
+        Field::Significance => "significance bytes",
+        Field::Counts => "Lcnt count bytes",
+        Field::M => "bitplane count",
+        Field::Ones => "one-bits of a count code",
+        Field::Data => "Ldat data bytes",
+        Field::Signs => "Lsgn sign bytes",
+        Field::Rest => "bytes behind the last packet",
+        Field::Eoc => "EOC end marker",
+        Field::Tail => "bytes behind the end marker",
     }
 }
 
-fn letter(at: usize) -> u8
-    requires { at < 1332 }
-    ensures { result ≡ get_or joined at 0 }
+// The same in 40 bytes, with zeros behind it, as C takes it.
+pub fn padded_name(f: Field) -> [u8; 40]
+    ensures { result ≡ name_of f ++ replicate (40 - length (name_of f)) 0 }
 {
-    LETTERS[at]
-}
-
-fn begin(n: usize) -> usize
-    requires { n < 71 }
-    ensures { result ≡ get_or begins n 0 }
-{
-    BEGINS[n]
-}
-
-// A name has at most 39 letters, so a zero follows it.
-#[derive(Clone, Copy)]
-pub struct Named {
-    pub letters: [u8; 40],
-    pub size: usize,
-}
-
-fn copied(from: usize, size: usize) -> Named
-    requires size_bound { from + size ≤ 1332 }
-    requires size_bound_2 { size ≤ 40 }
-    ensures size_value { result.size ≡ size }
-    ensures letters_value { result.letters ≡ paste (replicate 40 0) 0 (drop from joined) size }
-{
-    let mut letters = [0u8; 40];
-    let mut i = 0;
-    while i < size {
-        letters[i] = letter(from + i);
-        i += 1;
-    }
-    Named { letters, size }
-}
-
-// The name of a field, and zeros behind it.
-pub fn name(f: Field) -> Named
-    ensures size_value { result.size ≡ length (name_of f) }
-    ensures letters_value { result.letters ≡ name_of f ++ replicate (40 - length (name_of f)) 0 }
-{
-    let n = number_of(f);
-    let from = begin(n);
-    let end = begin(n + 1);
-    copied(from, end - from)
+    let text = name(f).as_bytes();
+    let mut padded = [0u8; 40];
+    padded[..text.len()].copy_from_slice(text);
+    padded
 }
 
 fn code_field(f: Field) -> bool
     ensures { result ≡ code_field f }
 {
-    match f {
-        Field::Soc
-        | Field::Cap
-        | Field::Pih
-        | Field::Next
-        | Field::Tcom
-        | Field::Slh
-        | Field::Eoc => true,
-        _ => false,
-    }
+    matches!(
+        f,
+        Field::Soc | Field::Cap | Field::Pih | Field::Next | Field::Tcom | Field::Slh | Field::Eoc
+    )
 }
 
 fn code_row(row: Row) -> bool
     ensures { result ≡ code_row row }
 {
-    match row {
-        Row::Cut => false,
-        Row::Marker => true,
-        Row::Value => true,
-        Row::Lacking => true,
-        Row::Lent => false,
-        Row::Length => false,
-        Row::Count => false,
-        Row::Mode => false,
-    }
+    matches!(row, Row::Marker | Row::Value | Row::Lacking)
 }
 
 // Whether the numbers of a broken check are codes, which the papers write in hexadecimal.

@@ -4,9 +4,7 @@ use mathlib.Core.Bool.{true}
 use mathlib.Core.List.{List}
 use mathlib.Core.Path.{◌≡◌, refl, sym, subst, ◌∙◌}
 use native.Mathlib.Omega.{arith}
-use Rattle.rows.specs.Rows.{first}
-use Rattle.rows.specs.declared.Verdict.{Verdict}
-use Rattle.rows.specs.declared.Verdict.TheVariants.{Fine}
+use Rattle.rows.specs.Rows.{first, Fine, Verdict}
 use Rattle.picture.specs.Markers.{CDT, WGT, CRG}
 use Rattle.picture.specs.Opening.{picture_place, opening_checks, Opened}
 use Rattle.picture.specs.Picture.{picture_at}

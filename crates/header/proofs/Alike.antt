@@ -1,4 +1,5 @@
 -- Locality of the header: streams of one length that agree up to and with the first slice marker have one reading. Assumes nothing.
+use Rattle.std.specs.Prelude.{Ok, Err}
 use Prim.Native.Nat.{ℕ, zero, suc, ◌+◌, ◌*◌, ◌≤◌, ◌<◌}
 use mathlib.Core.Bool.{Bool, true, false, cond, ◌&&◌}
 use mathlib.Core.List.{List, ◌++◌}
@@ -11,10 +12,8 @@ use Rattle.whole.specs.Cells.{listed}
 use Rattle.loops.specs.Run.{then, until}
 use Rattle.bits.specs.Alike.{Alike}
 use Rattle.bits.specs.Fields.{field_at}
-use Rattle.rows.specs.Rows.{first}
+use Rattle.rows.specs.Rows.{first, Fine, Verdict}
 use Rattle.rows.specs.declared.Check.{Check}
-use Rattle.rows.specs.declared.Verdict.{Verdict}
-use Rattle.rows.specs.declared.Verdict.TheVariants.{Fine, Refused}
 use Rattle.rows.proofs.Tables.{append_fine, held, refused_fine}
 use Rattle.picture.specs.Opening.{picture_place, opening_checks}
 use Rattle.picture.specs.Picture.{picture_at}
@@ -31,10 +30,9 @@ use Rattle.segments.specs.declared.kinds.Kind.{Kind}
 use Rattle.segments.specs.declared.kinds.Kind.TheVariants.{Components, Weights, Extension, Undecomposed, Registration, Unbuilt, Slice, Predicted, Unknown}
 use Rattle.segments.specs.declared.seen.Seen.{Seen}
 use Rattle.segments.proofs.Alike.{component_alike, components_alike, band_alike, bands_alike, gains_alike}
-use Rattle.header.specs.Header.{four, no_component, component_of, band_is, header_in, walk_by, header_by, reading_by, walk_of, reading_of}
+use Rattle.header.specs.Header.{four, no_component, component_of, band_is, header_in, walk_by, header_by, reading_by, walk_of, reading_of, Reading}
 use Rattle.header.specs.Turns.{turn, begun, walk}
 use Rattle.header.specs.Walk.{accepted, judged, step}
-use Rattle.header.specs.declared.header.Reading.{Reading}
 use Rattle.header.specs.declared.walk.Walk.{Walk}
 use Rattle.header.proofs.Ranges.{band_number_lem}
 use Rattle.header.proofs.Steps.{clash, step_up, turn_on, turn_end, bound_unused}
@@ -93,11 +91,11 @@ module _ {s s' : List ℕ} (h : Picture) (some : 0 < h.nc) (to : ℕ) (alike : A
 
   judged_alike : (k : Kind) (v : Verdict) → first (table k s) ≡ v → (judged v k s (g s) x).at ≤ to → ((judged v k s (g s) x).done ≡ true → (judged v k s (g s) x).verdict ≡ Fine)
       → judged (first (table k s')) k s' (g s') x ≡ judged v k s (g s) x
-  judged_alike k Fine f l d =
+  judged_alike k (Ok _) f l d =
       let q = kind_alike k (append_fine (head_checks (g s)) (checks_of k s h x (g s)) f).1 l in
       let head : head_checks (g s') ≡ head_checks (g s) = rw alike.long in
       (λ j. judged (first (head j ++ q.0 j)) k s' (g s') x) ∙ (λ j. judged (f j) k s' (g s') x) ∙ q.1
-  judged_alike k (Refused c) f l d = refused_fine (d refl)
+  judged_alike k (Err c) f l d = refused_fine (d refl)
 
   step_alike : (step s h w).at ≤ to → ((step s h w).done ≡ true → (step s h w).verdict ≡ Fine) → step s' h w ≡ step s h w
   unfolding step

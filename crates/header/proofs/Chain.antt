@@ -1,4 +1,5 @@
 -- What the walk has seen, said of the segments that it has passed: the places that it knows are those of the segments with their markers. Assumes nothing.
+use Rattle.std.specs.Prelude.{Ok, Err}
 use Prim.Native.Nat.{ℕ, zero, suc, ◌+◌, ◌≤◌, ◌<◌}
 use mathlib.Core.Bool.{Bool, true, false}
 use mathlib.Core.List.{List}
@@ -8,9 +9,7 @@ use native.Mathlib.Decide.{dec_lt}
 use native.Mathlib.Omega.{arith}
 use borrow.Author.Tests.{eqb-true, eqb-false}
 use Rattle.bits.specs.Fields.{field_at}
-use Rattle.rows.specs.Rows.{first}
-use Rattle.rows.specs.declared.Verdict.{Verdict}
-use Rattle.rows.specs.declared.Verdict.TheVariants.{Fine, Refused}
+use Rattle.rows.specs.Rows.{first, Fine, Verdict}
 use Rattle.rows.proofs.Tables.{append_fine, held}
 use Rattle.picture.specs.Markers.{CDT, WGT, COM, CRG, CAPTION}
 use Rattle.picture.specs.Opening.{picture_place}
@@ -258,8 +257,8 @@ module _ (s : List ℕ) (p : ℕ) (x : Seen) (c : Chain s p x) where
     accepted_chain Unknown code e = c
 
     judged_chain : (v : Verdict) (k : Kind) → Coded m k → (v ≡ Fine → first (checks_of k s h x (segment_at s p)) ≡ Fine) → after (judged v k s (segment_at s p) x)
-    judged_chain Fine k code f = accepted_chain k code (f refl)
-    judged_chain (Refused d) k code f = c
+    judged_chain (Ok _) k code f = accepted_chain k code (f refl)
+    judged_chain (Err d) k code f = c
 
 -- ---- the whole walk
 

@@ -1,5 +1,6 @@
 -- The order of the header's table: as far as a reading comes, places never fall, at one place fields stand in the order of their bits, and at one field numbers
 -- never fall; so the refusal is the first one from the front, and at one field the lowest. Assumes nothing.
+use Rattle.std.specs.Prelude.{Ok, Err}
 use Prim.Native.Nat.{ℕ, zero, suc, ◌+◌, ◌*◌, ◌≤◌, ◌<◌}
 use mathlib.Core.Bool.{Bool, true, false, cond}
 use mathlib.Core.List.Memᴰ
@@ -11,12 +12,10 @@ use native.Mathlib.Omega.{arith}
 use borrow.Author.Rules.{rules}
 use lib.ListN.{length}
 use Rattle.bits.specs.Fields.{field_at}
-use Rattle.rows.specs.Rows.{number, broken, first, each}
+use Rattle.rows.specs.Rows.{number, broken, first, each, Fine, Refused, Verdict}
 use Rattle.rows.specs.declared.Check.{Check}
 use Rattle.rows.specs.declared.Field.{Field}
 use Rattle.rows.specs.declared.Field.TheVariants.{Across, Down}
-use Rattle.rows.specs.declared.Verdict.{Verdict}
-use Rattle.rows.specs.declared.Verdict.TheVariants.{Fine, Refused}
 use Rattle.rows.proofs.Tables.{held, append_fine, numbered}
 use Rattle.picture.specs.Opening.{start_checks, picture_place, picture_checks}
 use Rattle.picture.specs.Picture.{picture_at}
@@ -223,8 +222,8 @@ module _ (s : List ℕ) (h : Picture) where
       further later false e f = rises_from behind_head.b (128 * (accepted k s g x).at) (segments_from s h fuel (accepted k s g x)) (behind_head.fits (f, e)) (later (accepted k s g x))
 
       by : ((v : Walk) → Rises (128 * v.at) (segments_from s h fuel v)) → (v : Verdict) → v ≡ first (segment_checks s h x g) → Rises behind_head.b (segments_from s h fuel (judged v k s g x))
-      by later Fine q = further later (accepted k s g x).done refl (append_fine (head_checks g) (checks_of k s h x g) (sym q)).1
-      by later (Refused c) q = none (ended (Refused c) g.at x) refl
+      by later (Ok _) q = further later (accepted k s g x).done refl (append_fine (head_checks g) (checks_of k s h x g) (sym q)).1
+      by later (Err c) q = none (ended (Refused c) g.at x) refl
 
       pick : (b : Bool) → ((v : Walk) → Rises (128 * v.at) (segments_from s h fuel v)) → Rises (128 * w.at) (cond b [] (segment_checks s h x g ++ segments_from s h fuel (judged (first (segment_checks s h x g)) k s g x)))
       pick true later = tt

@@ -1,4 +1,5 @@
 -- The pieces of an accepted header tile it, up to the first slice header, and all of them are markers. Assumes nothing.
+use Rattle.std.specs.Prelude.{Ok, Err}
 use Prim.Native.Nat.{ℕ, zero, suc, ◌+◌, ◌<◌}
 use mathlib.Core.Bool.{Bool, true, false, cond}
 use mathlib.Core.List.{List, [], ◌∷◌}
@@ -6,9 +7,7 @@ use mathlib.Core.Path.{◌≡◌, refl, sym, ◌∙◌}
 use native.Mathlib.Omega.{arith}
 use lib.ListN.{length}
 use Rattle.loops.specs.Run.{go, stop, until, then}
-use Rattle.rows.specs.Rows.{first}
-use Rattle.rows.specs.declared.Verdict.{Verdict}
-use Rattle.rows.specs.declared.Verdict.TheVariants.{Fine, Refused}
+use Rattle.rows.specs.Rows.{first, Fine, Verdict}
 use Rattle.pieces.specs.Pieces.{Markers, Piece, size, bytes_of}
 use Rattle.pieces.proofs.Laws.{AllOf, bytes_one}
 use Rattle.picture.specs.Opening.{picture_place, picture_bytes, opening_checks}
@@ -52,8 +51,8 @@ module _ (s : List ℕ) (g : Segment) (x : Seen) (ps : List Piece) where
   accepted_passes Unknown = refl
 
   judged_passes : (v : Verdict) (k : Kind) → Passes (judged v k s g x)
-  judged_passes Fine k = accepted_passes k
-  judged_passes (Refused c) k = refl
+  judged_passes (Ok _) k = accepted_passes k
+  judged_passes (Err c) k = refl
 
 module _ (s : List ℕ) (h : Picture) where
   step_passes : (w : Walk) (ps : List Piece) → Passes s (segment_at s w.at) w.seen ps (step s h w)

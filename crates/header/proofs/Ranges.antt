@@ -10,9 +10,8 @@ use lib.Dec.{eqb, ltb, lit≤}
 use lib.ListN.{get_or}
 use Rattle.whole.specs.Cells.{listed}
 use Rattle.whole.proofs.Lists.{listed_at, listed_past}
-use Rattle.rows.specs.Rows.{first}
+use Rattle.rows.specs.Rows.{first, Fine}
 use Rattle.rows.specs.declared.Field.TheVariants.{Across, Down}
-use Rattle.rows.specs.declared.Verdict.TheVariants.{Fine}
 use Rattle.rows.proofs.Tables.{append_fine, each_fine, held}
 use Rattle.picture.specs.Picture.{Built}
 use Rattle.picture.specs.declared.picture.Picture.{Picture}

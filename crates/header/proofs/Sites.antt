@@ -1,11 +1,10 @@
 -- Where the header's refusals stand: no place is past the stream. Assumes nothing.
+use Rattle.std.specs.Prelude.{Ok, Err}
 use Prim.Native.Nat.{ℕ, ◌+◌, ◌≤◌, zero-le}
 use mathlib.Core.List.{List}
 use mathlib.Core.Path.{◌≡◌, refl, sym, subst}
 use lib.ListN.{length}
-use Rattle.rows.specs.Rows.{first}
-use Rattle.rows.specs.declared.Verdict.{Verdict}
-use Rattle.rows.specs.declared.Verdict.TheVariants.{Fine, Refused}
+use Rattle.rows.specs.Rows.{first, Fine, Verdict}
 use Rattle.rows.proofs.Sites.{Inside, sited}
 use Rattle.picture.specs.Opening.{picture_place, opening_checks}
 use Rattle.picture.specs.Picture.{picture_at}
@@ -52,5 +51,5 @@ header_inside s = pick (first (opening_checks s)) (sited (length s) (opening_che
   where
     pick : (v : Verdict) → Inside (length s) v → (v ≡ Fine → picture_place s + 28 ≤ length s)
         → Inside (length s) (walk_by v s (picture_at s (picture_place s)) (picture_place s)).verdict
-    pick Fine i l = walk_sited s (picture_at s (picture_place s)) (picture_place s + 28) (l refl)
-    pick (Refused c) i l = i
+    pick (Ok _) i l = walk_sited s (picture_at s (picture_place s)) (picture_place s + 28) (l refl)
+    pick (Err c) i l = i

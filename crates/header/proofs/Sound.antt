@@ -1,4 +1,5 @@
 -- An accepted header: its tables were accepted, it ends at a slice marker, and its fields are in their ranges. Assumes nothing.
+use Rattle.std.specs.Prelude.{Ok, Err}
 use Prim.Native.Nat.{ℕ, ◌+◌, ◌*◌, ◌≤◌, zero-le}
 use mathlib.Core.Bool.{Bool, true, false}
 use mathlib.Core.List.{List, ◌++◌}
@@ -8,12 +9,10 @@ use borrow.Author.Tests.{eqb-true}
 use lib.Dec.{eqb}
 use lib.ListN.{length}
 use Rattle.bits.specs.Fields.{field_at}
-use Rattle.rows.specs.Rows.{check, first}
+use Rattle.rows.specs.Rows.{check, first, Fine, Refused, Verdict}
 use Rattle.rows.specs.declared.Field.{Field}
 use Rattle.rows.specs.declared.Field.TheVariants.{Soc, Cdt, Wgt, Sli, Lcdt, Lwgt}
 use Rattle.rows.specs.declared.Row.TheVariants.{Marker, Lacking}
-use Rattle.rows.specs.declared.Verdict.{Verdict}
-use Rattle.rows.specs.declared.Verdict.TheVariants.{Fine, Refused}
 use Rattle.rows.proofs.Tables.{append_fine, held, refused_fine}
 use Rattle.picture.specs.Markers.{SLH}
 use Rattle.picture.specs.Segment.{segment_at, length_checks}
@@ -137,8 +136,8 @@ module _ (s : List ℕ) (h : Picture) (w : Walk) (i : Sound s h w) where
 
   judged_sound : (v : Verdict) (k : Kind) → Coded (field_at s p 16) k
       → (v ≡ Fine → (first (head_checks (segment_at s p)) ≡ Fine) × (first (checks_of k s h x (segment_at s p)) ≡ Fine)) → Sound s h (judged v k s (segment_at s p) x)
-  judged_sound Fine k m f = accepted_sound k m (f refl).0 (f refl).1
-  judged_sound (Refused c) k m f = sound_later (omega arith) (λ _ e. refused_fine e)
+  judged_sound (Ok _) k m f = accepted_sound k m (f refl).0 (f refl).1
+  judged_sound (Err c) k m f = sound_later (omega arith) (λ _ e. refused_fine e)
 
   pub step_sound : Sound s h (step s h w)
   unfolding step

@@ -1,4 +1,5 @@
 -- Laws of the walk: a step that goes on gets at least four bytes further and stays in the stream, so the walk ends by itself. Assumes nothing.
+use Rattle.std.specs.Prelude.{Ok, Err}
 use Prim.Native.Nat.{ℕ, ◌+◌, ◌*◌, ◌-◌, ◌≤◌, ◌<◌}
 use mathlib.Core.Bool.{Bool, true, false, cond}
 use mathlib.Core.List.{List, ◌++◌}
@@ -7,11 +8,9 @@ use native.Mathlib.Omega.{arith}
 use lib.Dec.{lit≤}
 use lib.ListN.{length}
 use Rattle.loops.specs.Run.{go, stop}
-use Rattle.rows.specs.Rows.{first}
+use Rattle.rows.specs.Rows.{first, Fine, Verdict}
 use Rattle.rows.specs.declared.Field.TheVariants.{Cdt, Wgt, Crg, Lcdt, Lwgt, Lcom, Lcrg, Lcwd}
 use Rattle.rows.specs.declared.Row.TheVariants.{Lacking}
-use Rattle.rows.specs.declared.Verdict.{Verdict}
-use Rattle.rows.specs.declared.Verdict.TheVariants.{Fine, Refused}
 use Rattle.rows.proofs.Tables.{append_fine}
 use Rattle.picture.specs.Segment.{segment_at, length_checks}
 use Rattle.picture.specs.declared.picture.Picture.{Picture}
@@ -46,8 +45,8 @@ module _ (s : List ℕ) (g : Segment) (x : Seen) where
 
   -- a step's verdict is its segment's
   pub judged_verdict : (v : Verdict) (k : Kind) → (judged v k s g x).verdict ≡ v
-  judged_verdict Fine k = accepted_fine k
-  judged_verdict (Refused c) k = refl
+  judged_verdict (Ok _) k = accepted_fine k
+  judged_verdict (Err c) k = refl
 
   -- no step goes back
   accepted_up : (k : Kind) → g.at ≤ (accepted k s g x).at
@@ -62,8 +61,8 @@ module _ (s : List ℕ) (g : Segment) (x : Seen) where
   accepted_up Unknown = omega arith
 
   judged_up : (v : Verdict) (k : Kind) → g.at ≤ (judged v k s g x).at
-  judged_up Fine k = accepted_up k
-  judged_up (Refused c) k = omega arith
+  judged_up (Ok _) k = accepted_up k
+  judged_up (Err c) k = omega arith
 
 -- the walk goes on inside the stream
 abbrev Further : List ℕ → ℕ → Walk → Type 0
@@ -98,8 +97,8 @@ module _ (s : List ℕ) (h : Picture) (x : Seen) (p : ℕ) where
 
   judged_on : (v : Verdict) (k : Kind) → (v ≡ Fine → first (checks_of k s h x (segment_at s p)) ≡ Fine) → (judged v k s (segment_at s p) x).done ≡ false
       → Further s p (judged v k s (segment_at s p) x)
-  judged_on Fine k f d = accepted_on k (f refl) d
-  judged_on (Refused c) k f d = clash d
+  judged_on (Ok _) k f d = accepted_on k (f refl) d
+  judged_on (Err c) k f d = clash d
 
 pub step_on : (s : List ℕ) (h : Picture) (w : Walk) → (step s h w).done ≡ false → Further s w.at (step s h w)
 unfolding step
@@ -175,8 +174,8 @@ module _ (s : List ℕ) (h : Picture) (w : Walk) (i : Inside s w) where
   accepted_inside Unknown e = stays
 
   judged_inside : (v : Verdict) (k : Kind) → (v ≡ Fine → first (checks_of k s h w.seen (segment_at s w.at)) ≡ Fine) → Inside s (judged v k s (segment_at s w.at) w.seen)
-  judged_inside Fine k f = accepted_inside k (f refl)
-  judged_inside (Refused c) k f = record { at = i.at; cdt = i.cdt; wgt = i.wgt }
+  judged_inside (Ok _) k f = accepted_inside k (f refl)
+  judged_inside (Err c) k f = record { at = i.at; cdt = i.cdt; wgt = i.wgt }
 
   pub step_inside : Inside s (step s h w)
   unfolding step

@@ -1,4 +1,5 @@
 -- The verdict of a header is that of one table. Assumes nothing.
+use Rattle.std.specs.Prelude.{Ok, Err}
 use Prim.Native.Nat.{ℕ, zero, suc, ◌+◌, ◌<◌}
 use mathlib.Core.Bool.{Bool, true, false, cond}
 use mathlib.Core.List.{List, [], ◌++◌}
@@ -7,10 +8,8 @@ use native.Mathlib.Nat.{suc-add}
 use native.Mathlib.Omega.{arith}
 use lib.ListN.{length}
 use Rattle.loops.specs.Run.{go, stop, until, then as next}
-use Rattle.rows.specs.Rows.{first, then}
+use Rattle.rows.specs.Rows.{first, then, Fine, Verdict}
 use Rattle.rows.specs.declared.Check.{Check}
-use Rattle.rows.specs.declared.Verdict.{Verdict}
-use Rattle.rows.specs.declared.Verdict.TheVariants.{Fine, Refused}
 use Rattle.rows.proofs.Tables.{first_append}
 use Rattle.picture.specs.Opening.{picture_place, opening_checks}
 use Rattle.picture.specs.Picture.{picture_at}
@@ -32,12 +31,12 @@ use Rattle.header.proofs.Steps.{clash, judged_verdict, left, step_falls}
 module _ (s : List ℕ) (g : Segment) (x : Seen) where
   -- a segment that is refused ends the walk
   judged_open : (v : Verdict) (k : Kind) → (judged v k s g x).done ≡ false → (judged v k s g x).verdict ≡ Fine
-  judged_open Fine k d = judged_verdict s g x Fine k
-  judged_open (Refused c) k d = clash d
+  judged_open (Ok _) k d = judged_verdict s g x Fine k
+  judged_open (Err c) k d = clash d
 
 then_fine : (v : Verdict) → v ≡ then v Fine
-then_fine Fine = refl
-then_fine (Refused c) = refl
+then_fine (Ok _) = refl
+then_fine (Err c) = refl
 
 module _ (s : List ℕ) (h : Picture) where
   -- the checks of the segment at hand
@@ -103,5 +102,5 @@ one_table s = pick (first (opening_checks s)) ∙ sym (first_append (opening_che
     segments = segments_from s h (length s + 2) (begun (p + 28))
 
     pick : (v : Verdict) → (walk_by v s h p).verdict ≡ then v (first segments)
-    pick Fine = walk_table_lem s h (begun (p + 28)) (length s + 2) (begun (p + 28)) (omega arith) (λ d. refl)
-    pick (Refused c) = refl
+    pick (Ok _) = walk_table_lem s h (begun (p + 28)) (length s + 2) (begun (p + 28)) (omega arith) (λ d. refl)
+    pick (Err c) = refl

@@ -1,9 +1,7 @@
 -- The header of a codestream: what its segments say, or the first broken check.
-use Rattle.std.specs.Prelude.{ℕ, ◌+◌, Bool, false, ◌&&◌, cond, List, [], ◌∷◌, ltb, replicate}
+use Rattle.std.specs.Prelude.{ℕ, ◌+◌, Bool, false, ◌&&◌, cond, List, [], ◌∷◌, ltb, replicate, Ok, Err}
 use Rattle.whole.specs.Cells.{listed}
-use Rattle.rows.specs.Rows.{first}
-use Rattle.rows.specs.declared.Verdict.{Verdict}
-use Rattle.rows.specs.declared.Verdict.TheVariants.{Fine, Refused}
+use Rattle.rows.specs.Rows.{first, Refused, Verdict}
 use Rattle.picture.specs.Opening.{picture_place, picture_bytes, opening_checks}
 use Rattle.picture.specs.Picture.{no_picture, picture_at}
 use Rattle.picture.specs.declared.picture.Picture.{Picture}
@@ -16,7 +14,6 @@ use Rattle.segments.specs.declared.seen.Seen.{Seen}
 use Rattle.header.specs.Walk.{ended}
 use Rattle.header.specs.Turns.{walk}
 use Rattle.header.specs.declared.header.Header.{Header}
-use Rattle.header.specs.declared.header.Reading.{Reading}
 use Rattle.header.specs.declared.walk.Walk.{Walk}
 use Rattle.header.specs.declared.weights.Weights.{Weights}
 
@@ -76,13 +73,18 @@ no_header =
 
 -- the walk begins behind the picture header, where that is accepted
 abbrev pub walk_by : Verdict → List ℕ → Picture → ℕ → Walk
-walk_by Fine s h p = walk s h (p + picture_bytes)
-walk_by (Refused c) s h p = ended (Refused c) 0 none_seen
+walk_by (Ok _) s h p = walk s h (p + picture_bytes)
+walk_by (Err c) s h p = ended (Refused c) 0 none_seen
 
 -- a refused stream has no header
 abbrev pub header_by : Verdict → List ℕ → Picture → Walk → Header
-header_by Fine s h w = header_in s h w.seen w.at
-header_by (Refused c) s h w = no_header
+header_by (Ok _) s h w = header_in s h w.seen w.at
+header_by (Err c) s h w = no_header
+
+-- what a reading of the header comes to
+pub record Reading : Type 0 where
+  pub verdict : Verdict
+  pub header : Header
 
 abbrev pub reading_by : List ℕ → Picture → Walk → Reading
 reading_by s h w = record { verdict = w.verdict; header = header_by w.verdict s h w }

@@ -2,11 +2,10 @@
 -- table the first broken check is the one that is meant: `first_decides`.
 use Rattle.std.specs.Prelude.{ℕ, ◌+◌, ◌*◌, ◌≤◌, ◌<◌, ◌⊎◌, ◌≡◌}
 use mathlib.Core.List.{List, [], ◌∷◌, Memᴰ}
-use Rattle.rows.specs.Rows.{number, first}
+use Rattle.rows.specs.Rows.{number, first, Fine}
 use Rattle.rows.specs.declared.Check.{Check}
 use Rattle.rows.specs.declared.Field.{Field}
 use Rattle.rows.specs.declared.Field.TheVariants.{Soc, Cap, Lcap, Pih, Lpih, Lcod, Wf, Hf, Cw, Hsl, Nc, Ng, Ss, Bw, Fq, Br, Fslc, Ppoc, Cpih, Nlx, Nly, Qpih, Fs, Rm, Next, Cdt, Wgt, Nlt, Cwd, Cts, Crg, Tpc, Wgr, Sli, Lcdt, B, Sx, Sy, Across, Down, Lwgt, G, Lcom, Tcom, Lcrg, Lcwd, Sd, Samples, Work, Marks, Distances, Slh, Lslh, Ysl, Lprc, Precinct, Q, R, D, Packet, Dr, Significance, Counts, M, Ones, Data, Signs, Rest, Eoc, Tail}
-use Rattle.rows.specs.declared.Verdict.TheVariants.{Fine}
 use Rattle.picture.specs.Opening.{start_checks}
 use Rattle.header.specs.Table.{header_checks}
 

@@ -1,7 +1,7 @@
 -- The loop of the walk: steps from one segment to the next, until it ends.
 use Rattle.std.specs.Prelude.{ℕ, ◌+◌, ◌≤◌, false, cond, List, ◌≡◌, length}
 use Rattle.loops.specs.Run.{Turn, go, stop, until}
-use Rattle.rows.specs.declared.Verdict.TheVariants.{Fine}
+use Rattle.rows.specs.Rows.{Fine}
 use Rattle.picture.specs.declared.picture.Picture.{Picture}
 use Rattle.segments.specs.Segments.{none_seen}
 use Rattle.header.specs.Walk.{step}

@@ -1,9 +1,7 @@
 -- A.4: from the picture header to the first slice header, one segment after the other, in any order. This file has the step from one to the next; `Turns` has
 -- the loop. What the walk comes to is said without it in `Occurrence`.
-use Rattle.std.specs.Prelude.{ℕ, ◌+◌, Bool, true, false, ◌||◌, List, eqb}
-use Rattle.rows.specs.Rows.{first}
-use Rattle.rows.specs.declared.Verdict.{Verdict}
-use Rattle.rows.specs.declared.Verdict.TheVariants.{Fine, Refused}
+use Rattle.std.specs.Prelude.{ℕ, ◌+◌, Bool, true, false, ◌||◌, List, eqb, Ok, Err}
+use Rattle.rows.specs.Rows.{first, Fine, Refused, Verdict}
 use Rattle.picture.specs.Markers.{CAPTION}
 use Rattle.picture.specs.Segment.{segment_at}
 use Rattle.picture.specs.declared.picture.Picture.{Picture}
@@ -43,8 +41,8 @@ accepted Unknown s g x = ended Fine g.at x
 
 -- a refused segment ends it too
 abbrev pub judged : Verdict → Kind → List ℕ → Segment → Seen → Walk
-judged Fine k s g x = accepted k s g x
-judged (Refused c) k s g x = ended (Refused c) g.at x
+judged (Ok _) k s g x = accepted k s g x
+judged (Err c) k s g x = ended (Refused c) g.at x
 
 -- the segment at hand
 unfoldable pub step : List ℕ → Picture → Walk → Walk

@@ -1,10 +1,10 @@
 // The header by value.
-ghost use Rattle.std.specs.Prelude.{◌≡◌, ◌<◌, ◌^◌, length};
-ghost use Rattle.rows.specs.declared.Verdict.TheVariants.{Fine};
+ghost use Rattle.std.specs.Prelude.{◌≡◌, ◌<◌, ◌^◌};
+ghost use Rattle.rows.specs.Rows.{Fine};
 ghost use Rattle.picture.specs.Picture.{Built};
 ghost use Rattle.picture.specs.Opening.{Opened};
 ghost use Rattle.header.specs.Turns.{Inside};
-ghost use Rattle.header.specs.Header.{component_of, header_in, no_header, walk_by, header_by, reading_by};
+ghost use Rattle.header.specs.Header.{component_of, header_in, no_header, walk_by};
 
 use crate::walk::{Walk, walk_from};
 use crate::weights::Weights;
@@ -30,13 +30,6 @@ pub struct Header {
     pub slice: usize,
 }
 
-// A refused stream has no header: all of it is 0 and 'no'.
-#[derive(Clone, Copy)]
-pub struct Reading {
-    pub verdict: Verdict,
-    pub header: Header,
-}
-
 // Component c of the table at `cdt`, or none.
 fn component(s: &[u8], h: Picture, cdt: usize, c: usize) -> Component
     requires { (cdt < 2 ^ 32) × (c < 256) }
@@ -55,7 +48,7 @@ fn component(s: &[u8], h: Picture, cdt: usize, c: usize) -> Component
 
 impl Header {
     // By the picture header, the segments seen, and the place of the first slice marker.
-    fn read(s: &[u8], h: Picture, x: Seen, slice: usize) -> Self
+    pub(crate) fn read(s: &[u8], h: Picture, x: Seen, slice: usize) -> Self
         requires { Built h × (x.cdt < 2 ^ 32) × (x.wgt < 2 ^ 32) }
         ensures { result ≡ header_in s.now h x slice }
     {
@@ -78,8 +71,8 @@ impl Header {
         }
     }
 
-    // No header.
-    fn none() -> Self
+    // No header, as of a refused stream: all of it is 0 and 'no'.
+    pub fn none() -> Self
         ensures { result ≡ no_header }
     {
         Self {
@@ -101,31 +94,7 @@ pub(crate) fn walk_by(v: Verdict, s: &[u8], h: Picture, p: usize) -> Walk
     ensures { (result ≡ walk_by v s.now h p) × Inside s.now result }
 {
     match v {
-        Verdict::Fine => walk_from(s, h, p + 28),
-        Verdict::Refused(_) => Walk::end(v, 0, Seen::none()),
-    }
-}
-
-// The header of an accepted stream, or none.
-fn header_by(v: Verdict, s: &[u8], h: Picture, w: Walk) -> Header
-    requires { (v ≡ Fine → Built h × (length s.now < 2 ^ 32)) × Inside s.now w }
-    ensures { result ≡ header_by v s.now h w }
-{
-    let x = w.seen;
-    match v {
-        Verdict::Fine => Header::read(s, h, x, w.at),
-        Verdict::Refused(_) => Header::none(),
-    }
-}
-
-// The answer at a walk's end.
-pub(crate) fn reading_by(s: &[u8], h: Picture, w: Walk) -> Reading
-    requires { (w.verdict ≡ Fine → Built h × (length s.now < 2 ^ 32)) × Inside s.now w }
-    ensures { result ≡ reading_by s.now h w }
-{
-    let verdict = w.verdict;
-    Reading {
-        verdict,
-        header: header_by(verdict, s, h, w),
+        Ok(()) => walk_from(s, h, p + 28),
+        Err(_) => Walk::end(v, 0, Seen::none()),
     }
 }

@@ -30,7 +30,7 @@ impl Walk {
         Self {
             at,
             done: false,
-            verdict: Verdict::Fine,
+            verdict: Ok(()),
             seen: Seen::none(),
         }
     }
@@ -55,7 +55,7 @@ impl Walk {
         Self {
             at: g.at + 2 + g.size,
             done: false,
-            verdict: Verdict::Fine,
+            verdict: Ok(()),
             seen,
         }
     }
@@ -74,37 +74,18 @@ fn accept(kind: Kind, s: &[u8], g: Segment, x: Seen) -> Walk
     requires { (g.at < 2 ^ 32) × (g.size < 2 ^ 16) }
     ensures { result ≡ accepted kind s.now g x }
 {
-    let caption = is_caption(s, g.at);
     match kind {
-        Kind::Components => {
-            let mut y = x;
-            y.cdt = g.at;
-            Walk::behind(g, y)
-        }
-        Kind::Weights => {
-            let mut y = x;
-            y.wgt = g.at;
-            Walk::behind(g, y)
-        }
+        Kind::Components => { Walk::behind(g, Seen { cdt: g.at, ..x }) }
+        Kind::Weights => { Walk::behind(g, Seen { wgt: g.at, ..x }) }
         Kind::Extension => {
-            let mut y = x;
-            y.caption = caption | x.caption;
-            Walk::behind(g, y)
+            let caption = is_caption(s, g.at) || x.caption;
+            Walk::behind(g, Seen { caption, ..x })
         }
-        Kind::Registration => {
-            let mut y = x;
-            y.crg = g.at;
-            Walk::behind(g, y)
+        Kind::Registration => { Walk::behind(g, Seen { crg: g.at, ..x }) }
+        Kind::Undecomposed => { Walk::behind(g, Seen { cwd: g.at, ..x }) }
+        Kind::Unbuilt(_) | Kind::Slice | Kind::Predicted | Kind::Unknown => {
+            Walk::end(Ok(()), g.at, x)
         }
-        Kind::Undecomposed => {
-            let mut y = x;
-            y.cwd = g.at;
-            Walk::behind(g, y)
-        }
-        Kind::Unbuilt(_) => Walk::end(Verdict::Fine, g.at, x),
-        Kind::Slice => Walk::end(Verdict::Fine, g.at, x),
-        Kind::Predicted => Walk::end(Verdict::Fine, g.at, x),
-        Kind::Unknown => Walk::end(Verdict::Fine, g.at, x),
     }
 }
 
@@ -114,8 +95,8 @@ fn judge(v: Verdict, kind: Kind, s: &[u8], g: Segment, x: Seen) -> Walk
     ensures { result ≡ judged v kind s.now g x }
 {
     match v {
-        Verdict::Fine => accept(kind, s, g, x),
-        Verdict::Refused(_) => Walk::end(v, g.at, x),
+        Ok(()) => accept(kind, s, g, x),
+        Err(_) => Walk::end(v, g.at, x),
     }
 }
 

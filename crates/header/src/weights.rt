@@ -19,11 +19,7 @@ fn is_band(s: &[u8], h: Picture, cdt: usize, b: usize) -> bool
     requires { Built h × (cdt < 2 ^ 32) }
     ensures { result ≡ band_is s.now h cdt b }
 {
-    if b < band_count(h) {
-        band_exists(s, h, cdt, b)
-    } else {
-        false
-    }
+    b < band_count(h) && band_exists(s, h, cdt, b)
 }
 
 // The byte at a place, or 0.
@@ -42,13 +38,11 @@ impl Weights {
         let mut gains = [0u8; 40];
         let mut priorities = [0u8; 40];
         let mut k = 0;
-        let mut b = 0;
-        while b < 40 {
+        for b in 0..40 {
             let is = is_band(s, h, cdt, b);
             gains[b] = byte_if(s, is, wgt + 4 + 2 * k);
             priorities[b] = byte_if(s, is, wgt + 5 + 2 * k);
-            k += rows::choose(is, 1, 0);
-            b += 1;
+            k += usize::from(is);
         }
         Self { gains, priorities }
     }

@@ -2,11 +2,9 @@
 #![tactic(auto)]
 
 use header::header::Header;
-use input::{not_opened, read_full, word};
+use input::each_file;
 use picture::picture::Picture;
-use rows::Verdict;
-use std::fs::Files;
-use std::{fs, io};
+use std::io;
 
 fn print_sizes(rt: &impl Print, h: Picture) -> io::Result<()> {
     print!(rt;
@@ -66,40 +64,17 @@ fn print_header(rt: &impl Print, h: Header) -> io::Result<()> {
     print_caption(rt, h.caption)
 }
 
-fn print_answer(rt: &impl Print, v: Verdict, h: Header) -> io::Result<()> {
-    match v {
-        Verdict::Fine => print_header(rt, h),
-        Verdict::Refused(c) => println!(rt; " answer {} at {}", rows::number(c.0), c.1),
-    }
-}
-
 fn print_stream(rt: &impl Print, name: &str, s: &[u8]) -> io::Result<()> {
     print!(rt; "{name}:")?;
-    let r = header::read(s);
-    print_answer(rt, r.verdict, r.header)
-}
-
-// The file of this name, of at most 65,535 bytes. Where it cannot be opened, standard error says so.
-fn print_file(rt: &(impl Files + Print + Eprint + AllocGlobal), name: &str) -> io::Result<()> {
-    let mut file = match fs::open(rt, name) {
-        Ok(file) => file,
-        Err(e) => return eprintln!(rt; "{}", not_opened(rt.alloc(), name, e)?),
-    };
-    let mut buffer = [0u8; 65536];
-    let size = read_full(&mut file, &mut buffer)?;
-    // a buffer that is full may not hold the whole file
-    if 65535 < size {
-        return println!(rt; "{name}: longer than 65535 bytes");
+    match header::read(s) {
+        Ok(h) => print_header(rt, h),
+        Err(c) => println!(rt; " answer {} at {}", c.0.number(), c.1),
     }
-    print_stream(rt, name, &buffer[..size])
 }
 
 fn main(rt: HostRuntime) -> io::Result<()> {
-    for i in 1..usize::MAX {
-        match word(&rt, i)? {
-            Some(name) => print_file(&rt, name.as_str())?,
-            None => return Ok(()),
-        }
-    }
-    Ok(())
+    each_file(&rt, |name, held| match held {
+        Some(stream) => print_stream(&rt, name, stream),
+        None => println!(rt; "{name}: longer than 65535 bytes"),
+    })
 }

@@ -7,8 +7,9 @@ ghost use Rattle.std.specs.Io.KnownBytes.{Consumes, IsAtEnd};
 
 use std::alloc::{AllocError, Global};
 use std::env::{Env, FillError};
-use std::io;
+use std::fs::Files;
 use std::io::{ErrorKind, Read};
+use std::{fs, io};
 
 // Reads until the buffer is full or the input ends, and answers how many bytes that is: they stand at the buffer's start.
 pub fn read_full<R: Read>(reader: &mut R, buf: &mut [u8]) -> io::Result<usize>
@@ -17,6 +18,7 @@ pub fn read_full<R: Read>(reader: &mut R, buf: &mut [u8]) -> io::Result<usize>
     ensures end { IfOk result (λ n. n < length buf.new → IsAtEnd (R.remaining reader.new)) }
 {
     let mut done = 0;
+    // by as many bytes as each read gives; the library's `read_exact` takes an early end for an error, and `read_to_end` fills a `Vec`
     while done < buf.len() {
         let n = reader.read(&mut buf[done..])?;
         if n == 0 {
@@ -56,6 +58,61 @@ pub fn not_opened(alloc: Global, name: &str, e: io::Error) -> Result<String, All
         None => line.push_str(text.as_str())?,
     }
     Ok(line)
+}
+
+// The file of this name goes to `show`, with its name: what it holds, at most 65,535 bytes, or none where it is longer. Where it cannot be opened, standard error
+// says so.
+fn show_file<F: Fn(&str, Option<&[u8]>) -> io::Result<()>>(
+    rt: &(impl Files + Eprint + AllocGlobal),
+    name: &str,
+    show: &F,
+) -> io::Result<()>
+    requires { (said : _) (held : _) → said.now ≡ name.now → IfSome held (λ s. length s.now ≤ 65535) → F.pre show.now said held }
+{
+    let mut file = match fs::open(rt, name) {
+        Ok(file) => file,
+        Err(e) => return eprintln!(rt; "{}", not_opened(rt.alloc(), name, e)?),
+    };
+    let mut buffer = [0u8; 65536];
+    let size = read_full(&mut file, &mut buffer)?;
+    // a buffer that is full may not hold the whole file
+    if 65535 < size {
+        return show(name, None);
+    }
+    show(name, Some(&buffer[..size]))
+}
+
+// So does each file that the command line names, in order.
+pub fn each_file<F: Fn(&str, Option<&[u8]>) -> io::Result<()>>(
+    rt: &(impl Env + Files + Eprint + AllocGlobal),
+    show: F,
+) -> io::Result<()>
+    requires { (said : _) (held : _) → IfSome held (λ s. length s.now ≤ 65535) → F.pre show said held }
+{
+    for i in 1..usize::MAX {
+        match word(rt, i)? {
+            Some(name) => show_file(rt, name.as_str(), &show)?,
+            None => return Ok(()),
+        }
+    }
+    Ok(())
+}
+
+// What `text` makes of a stream of at most 16,384 bytes goes to standard output. Of a longer one that says only that it is too long.
+pub fn print_text<F: Fn(&[u8], &mut [u8]) -> usize>(
+    rt: &impl Print,
+    stream: &[u8],
+    text: F,
+) -> io::Result<()>
+    requires taken { (given : _) (out : _) → length given.now ≤ 16384 → F.pre text given out }
+    requires bounded { (given : _) (out : _) (size : _) (after : _) → F.post text given out size after → size ≤ length after.now }
+{
+    if 16384 < stream.len() {
+        return println!(rt; "input too long");
+    }
+    let mut out = [0u8; 65536];
+    let size = text(stream, &mut out);
+    rt.write_all(&out[..size])
 }
 
 #[cfg(test)]
@@ -115,6 +172,36 @@ mod tests {
     fn says_what_the_system_says(rt: HostRuntime) -> Result<(), Fail> {
         let line = not_opened(rt.alloc(), "page", io::Error::from_raw_os_error(2))?;
         assert_eq!(rt; line.as_str(), "page: No such file or directory");
+        Ok(())
+    }
+
+    // Fails in one way where the file is empty, in another where it is too long, and in a third at any other.
+    fn kind_of(held: Option<&[u8]>) -> ErrorKind {
+        match held {
+            Some(bytes) => {
+                if bytes.is_empty() {
+                    ErrorKind::NotConnected
+                } else {
+                    ErrorKind::InvalidData
+                }
+            }
+            None => ErrorKind::OutOfMemory,
+        }
+    }
+
+    #[test]
+    fn shows_what_a_file_holds(rt: HostRuntime) {
+        let show = |_: &str, held: Option<&[u8]>| Err(io::Error::from(kind_of(held)));
+        let empty = show_file(&rt, "/dev/null", &show);
+        assert!(rt; empty.is_err_and(|e| e.kind() == ErrorKind::NotConnected));
+        let long = show_file(&rt, "/dev/zero", &show);
+        assert!(rt; long.is_err_and(|e| e.kind() == ErrorKind::OutOfMemory));
+    }
+
+    #[test]
+    fn goes_on_without_a_file(rt: HostRuntime) -> Result<(), Fail> {
+        let show = |_: &str, held: Option<&[u8]>| Err(io::Error::from(kind_of(held)));
+        show_file(&rt, "/dev/null/none", &show)?;
         Ok(())
     }
 }

@@ -1,5 +1,5 @@
 -- Counts and sums over the bands and the components. Assumes nothing.
-use mathlib.Core.Path.{◌≡◌, refl, ap, ◌∙◌}
+use mathlib.Core.Path.{◌≡◌, refl, sym, ap, ◌∙◌}
 use mathlib.Core.Bool.{Bool, true, false, cond}
 use Prim.Native.Nat.{ℕ, zero, suc, ◌+◌, ◌*◌, ◌/◌, ◌%◌, ◌^◌, ◌≤◌, ◌<◌, min}
 use native.Mathlib.Decide.{dec_lt}
@@ -8,6 +8,9 @@ use native.Mathlib.Numerals.{add-one}
 use native.Mathlib.Omega.{arith}
 use borrow.Author.Tests.{lt-ltb, le-ltb}
 use lib.ListN.{get_or}
+use Rattle.std.specs.List.{sum_by, count_by, range_with_len}
+use Rattle.std.proofs.lemmas.List.{map-id}
+use Rattle.std.proofs.lemmas.List.FromFn.{sum_by-map-range_with_len_more}
 use Rattle.whole.proofs.Lists.{listed_at}
 use Rattle.layout.specs.declared.Shape.{Shape}
 use Rattle.layout.specs.Bands.{Wc, Hc, Nβ, NL, band_exists}
@@ -23,6 +26,16 @@ one_most true = omega arith
 one_most false = omega arith
 
 -- ---- bands
+
+-- they are counted in a row
+pub modes_counted : (s : Shape) (b : ℕ) → count_by (λ k. band_exists s k) (range_with_len 0 b) ≡ modes s b
+unfolding modes
+modes_counted s zero = refl
+modes_counted s (suc b) =
+    let one : ℕ → ℕ = λ k. cond (band_exists s k) 1 0 in
+    ap (sum_by one) (sym (map-id (range_with_len 0 (suc b))))
+    ∙ rw add-one at (sum_by-map-range_with_len_more one (λ k. k) 0 b b (omega arith))
+    ∙ ap (λ (n : ℕ). n + one b) (ap (sum_by one) (map-id (range_with_len 0 b)) ∙ modes_counted s b)
 
 pub modes_next : (s : Shape) (b : ℕ) → modes s (b + 1) ≡ modes s b + cond (band_exists s b) 1 0
 unfolding modes

@@ -5,9 +5,10 @@ ghost use Rattle.layout.specs.Built.{Built};
 ghost use Rattle.layout.specs.Sizes.{filter_of, IsComponent, IsBand};
 
 use crate::Shape;
-use crate::numbers::{ceil_div, power, smaller};
+use crate::numbers::power;
 
-// A filter type: 1 where it is high-pass, and its depths.
+// A filter type: its letters, 1 where it is high-pass, and its depths. The letters stay numbers: the standard's formulas multiply by them (B.4, B.6), and so
+// do `place` and `has_first_line` of the specs.
 #[derive(Clone, Copy)]
 pub struct Filter {
     pub tx: usize,
@@ -26,7 +27,8 @@ pub struct Component {
     pub ny: usize,
 }
 
-// A band: its filter type with the component's own depth down, and the component.
+// A band: its filter type with the component's own depth down, and the component. `exists` is no Option around them: a line's places are told where its band
+// does not exist too (`line` of specs/Slots).
 #[derive(Clone, Copy)]
 pub struct Band {
     pub exists: bool,
@@ -78,15 +80,13 @@ pub fn component_of(s: Shape, i: usize) -> Component
     requires { Built s × (i < s.nc) }
     ensures { IsComponent s i result }
 {
-    let across = s.sx;
-    let down = s.sy;
-    let sx = across[i];
-    let sy = down[i];
+    let sx = s.sx[i];
+    let sy = s.sy[i];
     Component {
-        sx: sx,
-        sy: sy,
-        w: ceil_div(s.wf, sx),
-        h: ceil_div(s.hf, sy),
+        sx,
+        sy,
+        w: s.wf.div_ceil(sx),
+        h: s.hf.div_ceil(sy),
         ny: s.nly - sy / 2,
     }
 }
@@ -107,18 +107,13 @@ pub(crate) fn band_of(s: Shape, beta: usize, i: usize) -> Band
     requires { Built s × (beta < Nβ s) × (i < s.nc) }
     ensures { IsBand s beta i result }
 {
-    let f = filter_type(s.nlx, s.nly, beta);
-    let c = component_of(s, i);
-    let e = first_line_divides(f, s.nly, c.sy);
-    let own = Filter {
-        tx: f.tx,
-        ty: f.ty,
-        dx: f.dx,
-        dy: smaller(f.dy, c.ny),
-    };
+    let filter = filter_type(s.nlx, s.nly, beta);
+    let part = component_of(s, i);
+    let exists = first_line_divides(filter, s.nly, part.sy);
+    let dy = filter.dy.min(part.ny);
     Band {
-        exists: e,
-        filter: own,
-        part: c,
+        exists,
+        filter: Filter { dy, ..filter },
+        part,
     }
 }

@@ -1,19 +1,14 @@
 // The fields of a precinct header that stand once for each band (Table C.1), and what they make of a band's weights (Table C.12).
-ghost use Rattle.std.specs.Prelude.{◌≡◌, cond, ◌+◌, ◌*◌, ◌<◌, ◌≤◌, ◌^◌};
+ghost use Rattle.std.specs.Prelude.{◌≡◌, count_by, ◌+◌, ◌*◌, ◌<◌, ◌≤◌, ◌^◌};
+ghost use Rattle.std.specs.List.{range_with_len};
 ghost use Rattle.layout.specs.Bands.{NL, band_exists};
 ghost use Rattle.layout.specs.Built.{Built};
-ghost use Rattle.layout.specs.Headers.{modes, mode_bit, mode_bits, header_bytes_of, truncation};
+ghost use Rattle.layout.specs.Headers.{mode_bit, mode_bits, header_bytes_of, truncation};
 ghost use Rattle.layout.specs.Sizes.{mode_width};
 
 use crate::Shape;
 use crate::bands::{band_of, filter_types};
-use crate::numbers::{ceil_div, less, power, smaller};
-
-fn one_if(t: bool) -> usize
-    ensures { result ≡ cond t 1 0 }
-{
-    if t { 1 } else { 0 }
-}
+use crate::numbers::power;
 
 // How many bands there are, existing or not.
 pub fn band_count(s: Shape) -> usize
@@ -27,23 +22,15 @@ pub fn band_exists(s: Shape, b: usize) -> bool
     requires { Built s × (b < NL s) }
     ensures { result ≡ band_exists s b }
 {
-    let nc = s.nc;
-    let band = band_of(s, b / nc, b % nc);
-    band.exists
+    band_of(s, b / s.nc, b % s.nc).exists
 }
 
 // How many of the bands below b exist.
 fn modes_before(s: Shape, b: usize) -> usize
     requires { Built s × (b ≤ NL s) }
-    ensures { (result ≡ modes s b) × (result ≤ b) }
+    ensures { result ≡ count_by (λ k. band_exists s k) (range_with_len 0 b) }
 {
-    let mut n = 0;
-    let mut k = 0;
-    while k < b {
-        n += one_if(band_exists(s, k));
-        k += 1;
-    }
-    n
+    (0..b).filter(|k| band_exists(s, *k)).count()
 }
 
 // The first bit, in a precinct header, of a band's coding mode.
@@ -60,7 +47,7 @@ fn mode_width(s: Shape, b: usize) -> usize
     ensures { result ≡ mode_width s b }
 {
     if b < band_count(s) {
-        return 2 * one_if(band_exists(s, b));
+        return 2 * usize::from(band_exists(s, b));
     }
     0
 }
@@ -72,11 +59,9 @@ pub fn bits_of_modes(s: Shape) -> [u8; 40]
 {
     let mut bits: [u8; 40] = [0; 40];
     let mut bit = 40;
-    let mut b = 0;
-    while b < 40 {
-        bits[b] = bit as u8;
+    for (b, place) in bits.iter_mut().enumerate() {
+        *place = bit as u8;
         bit += mode_width(s, b);
-        b += 1;
     }
     bits
 }
@@ -85,7 +70,7 @@ pub fn bytes_of_header(s: Shape) -> usize
     requires { Built s }
     ensures { (result ≡ header_bytes_of s) × (result ≤ 15) }
 {
-    ceil_div(bit_of_mode(s, band_count(s)), 8)
+    bit_of_mode(s, band_count(s)).div_ceil(8)
 }
 
 // A band's truncation position, from a precinct's quantization q and refinement r.
@@ -94,5 +79,5 @@ pub fn truncation_of(q: usize, r: usize, gain: usize, priority: usize, br: usize
     ensures { (result ≡ truncation q r gain priority br) × (result ≤ 31) }
 {
     let most = power(br) - 1;
-    smaller(less(q, gain + one_if(priority < r)), most)
+    q.saturating_sub(gain + usize::from(priority < r)).min(most)
 }

@@ -22,7 +22,8 @@ pub struct Shape {
 }
 
 // A line of a band in a precinct: which it is, where its coefficients lie, and how many they are. Count cells stand `area` cells behind the
-// coefficients; the line above in the band stands `up` cells before.
+// coefficients; the line above in the band stands `up` cells before. `present` is no Option around the rest: `line` of specs/Slots, and what packets says
+// by it, have the band and the places of a line that the precinct does not have too.
 #[derive(Clone, Copy)]
 pub struct Line {
     pub present: bool,

@@ -8,11 +8,11 @@ ghost use Rattle.layout.specs.Slots.{slots, candidates, line, line_at};
 ghost use Rattle.layout.specs.Sizes.{SmallBand, inner_of, IsReach, IsSpan, slot_of, candidate_band};
 
 use crate::bands::{Band, band_of, component_of};
-use crate::numbers::{ceil_div, place, power, product, size};
+use crate::numbers::{place, power, product, size};
 use crate::precincts::{Column, column_of};
 use crate::{Line, Shape};
 
-// A line's row in its band, and whether the precinct has it.
+// A line's row in its band, and whether the precinct has it. The row is told where it does not have it too (`line` of specs/Slots), so this is no Option.
 #[derive(Clone, Copy)]
 pub struct Reach {
     pub y: usize,
@@ -40,10 +40,8 @@ pub fn samples_before(s: Shape, i: usize) -> usize
     ensures { (result ≡ samples s i) × (result ≤ 2 ^ 30) }
 {
     let mut n = 0;
-    let mut k = 0;
-    while k < i {
+    for k in 0..i {
         n += area_of(s, k);
-        k += 1;
     }
     n
 }
@@ -58,7 +56,7 @@ fn reach_of(b: Band, row: usize, l: usize) -> Reach
     let y = product(row, power(p.ny - f.dy)) + l / p.sy;
     let height = size(p.h, f.ty, f.dy);
     Reach {
-        y: y,
+        y,
         present: b.exists & (l % p.sy == 0) & (y < height),
     }
 }
@@ -69,10 +67,10 @@ fn span_of(b: Band, c: Column) -> Span
 {
     let f = b.filter;
     let p = b.part;
-    let x = ceil_div(c.x, product(p.sx, power(f.dx)));
-    let all = ceil_div(c.width, p.sx);
+    let x = c.x.div_ceil(product(p.sx, power(f.dx)));
+    let all = c.width.div_ceil(p.sx);
     Span {
-        x: x,
+        x,
         width: size(all, f.tx, f.dx),
     }
 }
@@ -161,8 +159,8 @@ fn line_of(s: Shape, row: usize, column: usize, beta: usize, i: usize, l: usize)
         cell: 2 * before + inner,
         stride: power(f.dx),
         width: span.width,
-        groups: ceil_div(span.width, 4),
-        marks: ceil_div(span.width, 32),
+        groups: span.width.div_ceil(4),
+        marks: span.width.div_ceil(32),
         y: reach.y,
         area: product(p.w, p.h),
         up: product(power(f.dy), p.w),
@@ -175,8 +173,7 @@ pub fn line_at(s: Shape, row: usize, column: usize, k: usize, j: usize) -> Line
     ensures { result ≡ line_at s row column k j }
 {
     let slot = slot_of(s, k);
-    let nc = s.nc;
-    line_of(s, row, column, slot.first + j / nc, j % nc, slot.line)
+    line_of(s, row, column, slot.first + j / s.nc, j % s.nc, slot.line)
 }
 
 // Whether a row of precincts holds a line of band b.
@@ -184,8 +181,6 @@ pub fn has_lines(s: Shape, row: usize, b: usize) -> bool
     requires { Built s × (row < Npy s) × (b < NL s) }
     ensures { result ≡ (band_exists s b && ltb 0 (lines s row (b / s.nc) (b % s.nc))) }
 {
-    let nc = s.nc;
-    let band = band_of(s, b / nc, b % nc);
-    let reach = reach_of(band, row, 0);
-    reach.present
+    let band = band_of(s, b / s.nc, b % s.nc);
+    reach_of(band, row, 0).present
 }

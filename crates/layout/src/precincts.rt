@@ -5,7 +5,7 @@ ghost use Rattle.layout.specs.Precincts.{Npx, Npy, slices, slice_rows, Np};
 ghost use Rattle.layout.specs.Sizes.{IsLargest, IsColumnWidth, IsColumn};
 
 use crate::Shape;
-use crate::numbers::{ceil_div, larger, low_size, power, product};
+use crate::numbers::{low_size, power, product};
 
 // A column of precincts on the sampling grid.
 #[derive(Clone, Copy)]
@@ -19,8 +19,8 @@ fn largest_sx(s: Shape) -> usize
     requires { Built s }
     ensures { IsLargest s result }
 {
-    let f = s.sx;
-    larger(larger(larger(f[0], f[1]), f[2]), f[3])
+    let [a, b, c, d] = s.sx;
+    a.max(b).max(c).max(d)
 }
 
 fn column_width(s: Shape) -> usize
@@ -40,7 +40,7 @@ pub fn precinct_columns(s: Shape) -> usize
     requires { Built s }
     ensures { (result ≡ Npx s) × (result ≤ 16384) }
 {
-    ceil_div(s.wf, column_width(s))
+    s.wf.div_ceil(column_width(s))
 }
 
 pub fn precinct_rows(s: Shape) -> usize
@@ -58,10 +58,10 @@ pub(crate) fn column_of(s: Shape, column: usize) -> Column
     let n = precinct_columns(s);
     let x = product(column, cs);
     if column < n - 1 {
-        return Column { x: x, width: cs };
+        return Column { x, width: cs };
     }
     Column {
-        x: x,
+        x,
         width: (s.wf - 1) % cs + 1,
     }
 }
@@ -92,6 +92,5 @@ pub fn slice_count(s: Shape) -> usize
     requires { Built s }
     ensures { (result ≡ slices s) × (result ≤ 16384) }
 {
-    let n = precinct_rows(s);
-    ceil_div(n, s.hsl)
+    precinct_rows(s).div_ceil(s.hsl)
 }

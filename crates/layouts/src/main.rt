@@ -1,20 +1,17 @@
 // Reads the header of each file that is named, and prints what Annex B makes of it: components, slices, precincts, packets and their lines.
 #![tactic(auto)]
 
-ghost use Rattle.std.specs.Prelude.{◌≡◌, ◌*◌, ◌<◌, ◌≤◌, ◌^◌, IfOk};
+ghost use Rattle.std.specs.Prelude.{◌≡◌, ◌*◌, ◌<◌, ◌≤◌, ◌^◌};
 ghost use Rattle.layout.specs.Built.{Built};
 ghost use Rattle.layout.specs.Precincts.{Npx, Npy, slices};
 ghost use Rattle.layout.specs.Slots.{slots};
-ghost use Rattle.rows.specs.declared.Verdict.TheVariants.{Fine};
 
-use input::{not_opened, read_full, word};
+use input::each_file;
 use layout::bands::component_of;
 use layout::lines::{candidate_count, line_at, slot_count};
 use layout::precincts::{precinct_columns, precinct_rows, precincts_in_slice, slice_count};
 use layout::{Line, Shape};
-use rows::Verdict;
-use std::fs::Files;
-use std::{fs, io};
+use std::io;
 
 fn product(a: usize, b: usize) -> usize
     requires { (a < 2 ^ 30) × (b < 2 ^ 30) }
@@ -59,23 +56,13 @@ fn print_slices(rt: &impl Print, s: Shape) -> io::Result<()>
     Ok(())
 }
 
-fn one_if(t: bool) -> usize
-    ensures { result ≤ 1 }
-{
-    if t { 1 } else { 0 }
-}
-
 // How many of the lines that slot k can have the precinct has.
 fn line_count(s: Shape, row: usize, column: usize, k: usize) -> usize
     requires { Built s × (row < Npy s) × (column < Npx s) × (k < slots s) }
 {
-    let count = candidate_count(s, k);
-    let mut n = 0;
-    for j in 0..count {
-        let l = line_at(s, row, column, k, j);
-        n += one_if(l.present);
-    }
-    n
+    (0..candidate_count(s, k))
+        .filter(|j| line_at(s, row, column, k, *j).present)
+        .count()
 }
 
 fn print_line(rt: &impl Print, l: Line) -> io::Result<()> {
@@ -95,7 +82,7 @@ fn print_lines(rt: &impl Print, s: Shape, row: usize, column: usize, k: usize) -
     Ok(())
 }
 
-// Slot k, the packet with this number if it is one. How many packets it is.
+// Slot k, the packet with this number if it is one. Whether it is.
 fn print_packet(
     rt: &impl Print,
     s: Shape,
@@ -103,17 +90,16 @@ fn print_packet(
     column: usize,
     k: usize,
     number: usize,
-) -> io::Result<usize>
+) -> io::Result<bool>
     requires { Built s × (row < Npy s) × (column < Npx s) × (k < slots s) }
-    ensures { IfOk result (λ n. n ≤ 1) }
 {
     let lines = line_count(s, row, column, k);
     if lines == 0 {
-        return Ok(0);
+        return Ok(false);
     }
     println!(rt; "packet {number} lines {lines}")?;
     print_lines(rt, s, row, column, k)?;
-    Ok(1)
+    Ok(true)
 }
 
 fn print_packets(rt: &impl Print, s: Shape, row: usize, column: usize) -> io::Result<()>
@@ -121,7 +107,7 @@ fn print_packets(rt: &impl Print, s: Shape, row: usize, column: usize) -> io::Re
 {
     let mut number = 0;
     for k in 0..slot_count(s) {
-        number += print_packet(rt, s, row, column, k, number)?;
+        number += usize::from(print_packet(rt, s, row, column, k, number)?);
     }
     Ok(())
 }
@@ -162,44 +148,17 @@ fn print_layout(rt: &impl Print, s: Shape) -> io::Result<()>
     print_rows(rt, s)
 }
 
-fn print_answer(rt: &impl Print, v: Verdict, s: Shape) -> io::Result<()>
-    requires { v ≡ Fine → Built s }
-{
-    match v {
-        Verdict::Fine => print_layout(rt, s),
-        Verdict::Refused(c) => println!(rt; "answer {} at {}", rows::number(c.0), c.1),
-    }
-}
-
 fn print_stream(rt: &impl Print, name: &str, stream: &[u8]) -> io::Result<()> {
     println!(rt; "stream {name}")?;
-    let r = header::read(stream);
-    let verdict = r.verdict;
-    let h = r.header;
-    print_answer(rt, verdict, shapes::shape_of(h))
-}
-
-// The file of this name, of at most 65,535 bytes. Where it cannot be opened, standard error says so.
-fn print_file(rt: &(impl Files + Print + Eprint + AllocGlobal), name: &str) -> io::Result<()> {
-    let mut file = match fs::open(rt, name) {
-        Ok(file) => file,
-        Err(e) => return eprintln!(rt; "{}", not_opened(rt.alloc(), name, e)?),
-    };
-    let mut buffer = [0u8; 65536];
-    let size = read_full(&mut file, &mut buffer)?;
-    // a buffer that is full may not hold the whole file
-    if 65535 < size {
-        return println!(rt; "stream {name}\nlonger than 65535 bytes");
+    match header::read(stream) {
+        Ok(h) => print_layout(rt, shapes::shape_of(h)),
+        Err(c) => println!(rt; "answer {} at {}", c.0.number(), c.1),
     }
-    print_stream(rt, name, &buffer[..size])
 }
 
 fn main(rt: HostRuntime) -> io::Result<()> {
-    for i in 1..usize::MAX {
-        match word(&rt, i)? {
-            Some(name) => print_file(&rt, name.as_str())?,
-            None => return Ok(()),
-        }
-    }
-    Ok(())
+    each_file(&rt, |name, held| match held {
+        Some(stream) => print_stream(&rt, name, stream),
+        None => println!(rt; "stream {name}\nlonger than 65535 bytes"),
+    })
 }

@@ -94,5 +94,5 @@ module _ {f : ℕ → Bool} {k : ℕ} (inv : Passed f k) where
   pub search_stops : {n : ℕ} → k < n → f k ≡ true → k ≡ lowest f n
   search_stops {n} l e = sym (lowest_is f n k (omega arith) inv.fails (λ _. e))
 
-  pub search_ends : {n : ℕ} → k ≡ n → k ≡ lowest f n
-  search_ends {n} e = sym (lowest_is f n k (omega arith) inv.fails (λ l. absurd (omega arith)))
+  pub search_ends : {m n : ℕ} → n ≤ k → m ≡ n → m ≡ lowest f n
+  search_ends {m} {n} l e = e ∙ sym (lowest_is f n n (omega arith) (λ j h. inv.fails j (omega arith)) (λ h. absurd (omega arith)))

@@ -6,18 +6,12 @@
 //   c  the same in spite of damage, without its marks
 #![tactic(auto)]
 
-use input::read_full;
-use show::modes::Mode;
+use input::{print_text, read_full};
+use show::modes::{Mode, text_of};
 use std::io;
 
 fn print_page(rt: &impl Print, mode: Mode, stream: &[u8]) -> io::Result<()> {
-    if 16384 < stream.len() {
-        return println!(rt; "input too long");
-    }
-    let mut text = [0u8; 65536];
-    let told = show::modes::text_of(mode, stream, &mut text);
-    let size = told.size;
-    rt.write_all(&text[..size])
+    print_text(rt, stream, |given, out| text_of(mode, given, out).size)
 }
 
 // The letter is judged first, then the stream's length.

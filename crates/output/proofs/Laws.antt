@@ -1,23 +1,21 @@
 -- The laws of G.3: what its constants make, distance and range. Assumes nothing.
 use mathlib.Core.Path.{◌≡◌, refl, sym, ap, ap₂, ◌∙◌}
-use mathlib.Core.Bool.{true, false, cond}
 use mathlib.Core.List.{List}
 use Prim.Native.Nat.{ℕ, ◌+◌, ◌-◌, ◌/◌, ◌^◌, ◌≤◌, ◌<◌, min}
 use native.Mathlib.Nat.{div-eq_of_lt, le-div_iff_mul-le, div-mul-le_self}
 use native.Mathlib.Numerals.{add-one}
 use native.Mathlib.Omega.{arith}
-use lib.Dec.{eqb}
-use lib.IntN.{ℤ, pos, negsuc, nat_abs, ◌+ℤ◌, +ℤ_assoc}
+use lib.IntN.{ℤ, pos, negsuc, ◌+ℤ◌, +ℤ_assoc}
 use lib.ListN.{length, get_or, set}
-use lib.Pow.{pow_pos, pow_mono}
-use lib.Signed.{lt_z}
+use lib.Pow.{pow_pos}
 use Rattle.whole.specs.Numbers.{ceil_div, Within, Near}
-use Rattle.whole.proofs.Linear.{of_dist, lt_z_true}
-use Rattle.whole.proofs.Machine.{pos_is}
+use Rattle.whole.specs.declared.Kind.{Kind}
+use Rattle.whole.specs.declared.Kind.TheVariants.{Samples, Numbers}
+use Rattle.whole.proofs.Linear.{of_dist}
 use Rattle.whole.proofs.Passes.{mapped, mapped_step}
 use Rattle.whole.proofs.Within.{within_refl, within_le, within_add, within_shr}
-use Rattle.output.specs.Linear.{levelled, rescaled, clamp, sample, distance, output_of, Precisions}
-use Rattle.output.specs.Constants.{scale_of, by_scale, number_by_scale, output_by_scale, Usable}
+use Rattle.output.specs.Linear.{levelled, rescaled, clamp, sample, distance, output_of}
+use Rattle.output.specs.Constants.{scale_of, by_scale, output_by_scale}
 
 -- ---- document 01, distance rules 4 and 5
 
@@ -62,31 +60,16 @@ pub sample_below : (Bw B : ℕ) (v : ℤ) → sample Bw B v < 2 ^ B
 unfolding sample
 sample_below Bw B v = omega (arith, clamp_most (2 ^ B - 1) (rescaled (Bw - B) (levelled Bw v)), pow_pos B)
 
--- ---- the clamp, by the test that its code makes
-
-pub clamp_under : (m : ℕ) (v : ℤ) → lt_z v (pos 0) ≡ true → clamp m v ≡ 0
-clamp_under m (pos n) h = absurd (omega (arith, lt_z_true (pos n) (pos 0) h))
-clamp_under m (negsuc n) h = refl
-
-pub clamp_over : (m : ℕ) (v : ℤ) → lt_z v (pos 0) ≡ false → clamp m v ≡ min (nat_abs v) m
-clamp_over m v h = rw (pos_is v h)
-
 -- ---- the constants
 
 by_scale_lem : (Bw B : ℕ) (v : ℤ) → by_scale (scale_of Bw B) v ≡ sample Bw B v
 unfolding sample
 by_scale_lem Bw B v = rw (+ℤ_assoc v (pos (2 ^ Bw / 2)) (pos (2 ^ (Bw - B) / 2)))
 
-pub output_by_scale_lem : (kind Bw B : ℕ) (v : ℤ) → output_by_scale kind (scale_of Bw B) v ≡ output_of kind Bw B v
-unfolding output_of distance
-output_by_scale_lem kind Bw B v = λ i. cond (eqb kind 0) (by_scale_lem Bw B v i) (number_by_scale (scale_of Bw B) (nat_abs v))
-
-pub usable : {Bw B : ℕ} → Precisions Bw B → Usable (scale_of Bw B)
-usable {Bw} {B} h = record {
-  lift = omega (arith, pow_mono {i = Bw} {j = 20} h.wide, pow_mono {i = Bw - B} {j = 20} (omega arith));
-  shift = omega arith;
-  top = omega (arith, pow_mono {i = B} {j = 16} h.most, pow_pos B);
-}
+pub output_by_scale_lem : (kind : Kind) (Bw B : ℕ) (v : ℤ) → output_by_scale kind (scale_of Bw B) v ≡ output_of kind Bw B v
+unfolding distance
+output_by_scale_lem Samples Bw B v = by_scale_lem Bw B v
+output_by_scale_lem Numbers Bw B v = refl
 
 -- ---- a loop that writes g's value over each element: a turn, as its code leaves the list
 pub pass_goes : {A : Type 0} (g : ℕ → A → A) (x : ℕ) (l : List A) (d : A) {now : List A} {z : A} → now ≡ mapped g x l → z ≡ g x (get_or l x d)

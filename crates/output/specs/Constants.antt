@@ -1,7 +1,9 @@
 -- Table G.2 with all that is the same for a component's values worked out beforehand, for the functions that run it.
-use Rattle.std.specs.Prelude.{cond, ℕ, ◌+◌, ◌-◌, ◌/◌, ◌^◌, ◌≤◌, ◌<◌, min, eqb, ℤ, pos, nat_abs, ◌+ℤ◌}
+use Rattle.std.specs.Prelude.{ℕ, ◌+◌, ◌-◌, ◌/◌, ◌^◌, ◌≤◌, ◌<◌, min, ℤ, pos, nat_abs, ◌+ℤ◌}
 use Rattle.std.specs.Int.Signed.{shr_z}
 use Rattle.whole.specs.Numbers.{ceil_div}
+use Rattle.whole.specs.declared.Kind.{Kind}
+use Rattle.whole.specs.declared.Kind.TheVariants.{Samples, Numbers}
 use Rattle.output.specs.Linear.{clamp}
 use Rattle.output.specs.declared.Scale.{Scale}
 
@@ -18,8 +20,9 @@ abbrev pub number_by_scale : Scale → ℕ → ℕ
 number_by_scale s e = min (ceil_div e (2 ^ s.shift)) s.top
 
 -- what a value of a kind is given as by them
-abbrev pub output_by_scale : ℕ → Scale → ℤ → ℕ
-output_by_scale kind s v = cond (eqb kind 0) (by_scale s v) (number_by_scale s (nat_abs v))
+abbrev pub output_by_scale : Kind → Scale → ℤ → ℕ
+output_by_scale Samples s v = by_scale s v
+output_by_scale Numbers s v = number_by_scale s (nat_abs v)
 
 -- constants with which no step wraps
 pub record Usable (s : Scale) : Type 0 where

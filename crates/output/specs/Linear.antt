@@ -3,6 +3,8 @@ use Rattle.std.specs.Prelude.{◌≡◌, cond, List, ℕ, ◌-◌, ◌/◌, ◌^
 use Rattle.std.specs.Int.Signed.{shr_z}
 use Rattle.whole.specs.Numbers.{ceil_div}
 use Rattle.whole.specs.Cells.{cell, Bounded}
+use Rattle.whole.specs.declared.Kind.{Kind}
+use Rattle.whole.specs.declared.Kind.TheVariants.{Samples, Numbers}
 
 -- v + ((1 << Bw) >> 1): the inverse DC level shift
 abbrev pub levelled : ℕ → ℤ → ℤ
@@ -29,9 +31,10 @@ scaled_number k e = ceil_div e (2 ^ k)
 unfoldable pub distance : ℕ → ℕ → ℕ → ℕ
 distance Bw B e = min (scaled_number (Bw - B) e) (2 ^ B - 1)
 
--- what a value of a kind is given as. The kinds are numbers: 0 is samples, any other is distance numbers
-unfoldable pub output_of : ℕ → ℕ → ℕ → ℤ → ℕ
-output_of kind Bw B v = cond (eqb kind 0) (sample Bw B v) (distance Bw B (nat_abs v))
+-- what a value of a kind is given as
+abbrev pub output_of : Kind → ℕ → ℕ → ℤ → ℕ
+output_of Samples Bw B v = sample Bw B v
+output_of Numbers Bw B v = distance Bw B (nat_abs v)
 
 -- document 02, C-22: a sample that is marked lost gets 2^B − 1 in the place of its distance
 abbrev pub lost_distance : ℕ → ℕ → ℕ → ℕ
@@ -50,5 +53,5 @@ pub record Lent (Bw B : ℕ) (work : List ℤ) (out : List ℕ) : Type 0 where
   pub room : length work ≡ length out
 
 -- where they are distance numbers none is below 0
-pub record Numbers (work : List ℤ) : Type 0 where
+pub record HoldingNumbers (work : List ℤ) : Type 0 where
   pub number : (j : ℕ) → j < length work → cell work j ≡ pos (nat_abs (cell work j))

@@ -2,10 +2,13 @@
 // from distance numbers to distances.
 #![tactic(auto)]
 
-ghost use Rattle.std.specs.Prelude.{◌≡◌, ◌≢◌, map, cond, ◌^◌, ◌≤◌, ◌<◌, min, eqb, pos, nat_abs, length, get_or};
+ghost use Rattle.std.specs.Prelude.{◌≡◌, map, cond, ◌^◌, ◌≤◌, ◌<◌, min, eqb, pos, nat_abs, length, get_or};
 ghost use Rattle.whole.specs.Cells.{map_at};
-ghost use Rattle.output.specs.Linear.{clamp, distance, output_of, lost_distance, Precisions, Lent, Numbers};
+ghost use Rattle.whole.specs.declared.Kind.TheVariants.{Numbers};
+ghost use Rattle.output.specs.Linear.{clamp, distance, output_of, lost_distance, Precisions, Lent, HoldingNumbers};
 ghost use Rattle.output.specs.Constants.{scale_of, by_scale, number_by_scale, output_by_scale, Usable};
+
+use whole::Kind;
 
 // What Table G.2 works out once for a component: both terms that it adds, in one; the shift; the largest sample.
 #[derive(Clone, Copy)]
@@ -15,14 +18,6 @@ struct Scale {
     top: u64,
 }
 
-// 2^k.
-fn power(k: u64) -> u64
-    requires { k < 64 }
-    ensures { result ≡ 2 ^ k }
-{
-    1 << k
-}
-
 // The constants for the precisions bw and b.
 fn scale_of(bw: u64, b: u64) -> Scale
     requires { Precisions bw b }
@@ -30,18 +25,10 @@ fn scale_of(bw: u64, b: u64) -> Scale
 {
     let shift = bw - b;
     Scale {
-        lift: (power(bw) >> 1) + (power(shift) >> 1),
-        shift: shift,
-        top: power(b) - 1,
+        lift: ((1 << bw) >> 1) + ((1 << shift) >> 1),
+        shift,
+        top: (1 << b) - 1,
     }
-}
-
-// The smaller of q and top.
-fn least(q: u64, top: u64) -> u16
-    requires { top < 2 ^ 16 }
-    ensures { result ≡ min q top }
-{
-    if q < top { q as u16 } else { top as u16 }
 }
 
 // Table G.2's clamp of q to 0 .. top.
@@ -49,10 +36,7 @@ fn clamp_of(q: i64, top: u64) -> u16
     requires { top < 2 ^ 16 }
     ensures { result ≡ clamp top q }
 {
-    if q < 0 {
-        return 0;
-    }
-    least(q as u64, top)
+    q.clamp(0, top as i64) as u16
 }
 
 // The sample of one value.
@@ -68,7 +52,7 @@ fn near_of(e: u64, s: Scale) -> u16
     requires { (e ≤ 2 ^ 60) × Usable s }
     ensures { result ≡ number_by_scale s e }
 {
-    least((e + (power(s.shift) - 1)) >> s.shift, s.top)
+    ((e + ((1 << s.shift) - 1)) >> s.shift).min(s.top) as u16
 }
 
 // The distance of a component whose number before the output step is e.
@@ -80,28 +64,25 @@ pub fn distance_of(e: u64, bw: u64, b: u64) -> u16
     near_of(e, s)
 }
 
-// What a value is given as: the sample, or of a distance number the distance. The kind of value is a number, 0 for samples and any other for numbers.
-fn output_of(kind: usize, v: i64, s: Scale) -> u16
-    requires { (nat_abs v ≤ 2 ^ 60) × Usable s × (kind ≢ 0 → v ≡ pos (nat_abs v)) }
+// What a value of a kind is given as: the sample, or of a distance number the distance.
+fn output_of(kind: Kind, v: i64, s: Scale) -> u16
+    requires { (nat_abs v ≤ 2 ^ 60) × Usable s × (kind ≡ Numbers → v ≡ pos (nat_abs v)) }
     ensures { result ≡ output_by_scale kind s v }
 {
-    if kind == 0 {
-        sample_of(v, s)
-    } else {
-        near_of(v as u64, s)
+    match kind {
+        Kind::Samples => sample_of(v, s),
+        Kind::Numbers => near_of(v as u64, s),
     }
 }
 
 // Table G.2 for one component, and document 01's rules 4 and 5 for one, place by place: what each value is given as, in the same order.
-pub fn linear_output(work: &[i64], out: &mut [u16], kind: usize, bw: u64, b: u64)
-    requires { Lent bw b work.now out.old × (kind ≢ 0 → Numbers work.now) }
+pub fn linear_output(work: &[i64], out: &mut [u16], kind: Kind, bw: u64, b: u64)
+    requires { Lent bw b work.now out.old × (kind ≡ Numbers → HoldingNumbers work.now) }
     ensures { out.new ≡ map (output_of kind bw b) work.now }
 {
     let s = scale_of(bw, b);
-    let mut x: usize = 0;
-    while x < work.len() {
-        out[x] = output_of(kind, work[x], s);
-        x += 1;
+    for (x, o) in out.iter_mut().enumerate() {
+        *o = output_of(kind, work[x], s);
     }
 }
 
@@ -117,10 +98,8 @@ pub fn lost_output(marks: &[u8], out: &mut [u16], b: u64)
     requires { (b ≤ 16) × (length marks.now ≡ length out.old) }
     ensures { out.new ≡ map_at (λ n d. lost_distance b (get_or marks.now n 0) d) out.old }
 {
-    let top = (power(b) - 1) as u16;
-    let mut x = 0;
-    while x < marks.len() {
-        out[x] = unless_lost(marks[x], out[x], top);
-        x += 1;
+    let top = ((1u64 << b) - 1) as u16;
+    for (x, d) in out.iter_mut().enumerate() {
+        *d = unless_lost(marks[x], *d, top);
     }
 }

@@ -1,5 +1,6 @@
 -- C.6.1, Table C.13: the count cell that the vertical predictor of code group g reads is that of group g, in the same columns, one line up in the band.
 -- The counts that are read before it in its packet leave that cell. Assumes nothing.
+use Rattle.std.specs.Prelude.{Ok, Err}
 use mathlib.Core.Path.{◌≡◌, refl, sym, ap, ◌∙◌}
 use mathlib.Core.Bool.{Bool, true, false, cond}
 use mathlib.Core.List.{List}
@@ -24,10 +25,8 @@ use Rattle.layout.proofs.Slots.{slots_most, later_line}
 use Rattle.layout.proofs.Cells.{line_above, later_column}
 use Rattle.layout.proofs.Members.{Candidate, member_slot, common_share}
 use Rattle.layout.proofs.Shared.{shared_slot}
-use Rattle.counts.specs.declared.group.Group.{Group}
-use Rattle.counts.specs.declared.group.Group.TheVariants.{Count, Cut as CutCode, High as HighCode, Long as LongCode}
-use Rattle.counts.specs.declared.Line.{Line as Counted}
-use Rattle.counts.specs.declared.Line.TheVariants.{Done, Cut, High, Long}
+use Rattle.counts.specs.Groups.{Group}
+use Rattle.counts.specs.Lines.{Line as LineCounts}
 use Rattle.counts.specs.Lines.{State, Left, count_cell, stored, unpack, turn, line_counts}
 use Rattle.bits.specs.Groups.{Ncg, packed}
 use Rattle.counts.proofs.Laws.{line_other as counts_other}
@@ -119,23 +118,21 @@ module _ (s : List ℕ) (c : Setting) (p : Precinct) (slot at : ℕ) (cells : Li
   lines_leave : (j : ℕ) → j ≤ candidates c.shape slot → cell (before_counts s c p slot at cells j).2 a ≡ cell cells a
   unfolding count_turn
   lines_leave j b =
-      before_keeps (λ (x : Counting). cell x.2 a ≡ cell cells a) (λ (r : Counted × List ℤ). Unit {0})
+      before_keeps (λ (x : Counting). cell x.2 a ≡ cell cells a) (λ (r : LineCounts × List ℤ). Unit {0})
       (count_turn s c p slot (count_bytes s c p slot at) (mark_bytes s c p slot at) (raw s c p slot at)) (0, 0, cells) refl j (λ n x l h. pick n x (omega arith) h (line c p slot n).present refl)
     where
-      counting : ℕ → Counting → Counted × List ℤ
+      counting : ℕ → Counting → LineCounts × List ℤ
       counting n x =
           line_counts (count_bytes s c p slot at) (mark_bytes s c p slot at) (coding_in s c p slot at n) (place_of (line c p slot n)) x.0
           (marks s c p slot (raw s c p slot at) n) x.2
 
-      by : (need : ℕ) (y : Counted × List ℤ) → cell y.1 a ≡ cell cells a
-          → Kept (λ (x : Counting). cell x.2 a ≡ cell cells a) (λ (r : Counted × List ℤ). Unit {0}) (counted need y)
-      by need (Done next more, l) h = h
-      by need (Cut, l) h = tt
-      by need (High m, l) h = tt
-      by need (Long n, l) h = tt
+      by : (need : ℕ) (y : LineCounts × List ℤ) → cell y.1 a ≡ cell cells a
+          → Kept (λ (x : Counting). cell x.2 a ≡ cell cells a) (λ (r : LineCounts × List ℤ). Unit {0}) (counted need y)
+      by need (Ok k, l) h = h
+      by need (Err f, l) h = tt
 
       pick : (n : ℕ) (x : Counting) → n < candidates c.shape slot → cell x.2 a ≡ cell cells a → (there : Bool) → (line c p slot n).present ≡ there
-          → Kept (λ (x : Counting). cell x.2 a ≡ cell cells a) (λ (r : Counted × List ℤ). Unit {0}) (cond there (counted x.1 (counting n x)) (go x))
+          → Kept (λ (x : Counting). cell x.2 a ≡ cell cells a) (λ (r : LineCounts × List ℤ). Unit {0}) (cond there (counted x.1 (counting n x)) (go x))
       pick n x l h true e =
           by x.1 (counting n x)
           (counts_other (count_bytes s c p slot at) (mark_bytes s c p slot at) (coding_in s c p slot at n) (place_of (line c p slot n)) x.0
@@ -158,8 +155,6 @@ module _ (s : List ℕ) (c : Setting) (p : Precinct) (slot at : ℕ) (cells : Li
     where
       by : (n : ℕ) (x : State) → n < Ncg (line c p slot j).width → cell x.2 a ≡ cell cells a → (u : Group)
           → Kept (λ (x : State). cell x.2 a ≡ cell cells a) (λ (r : Left). Unit {0}) (stored (coding_in s c p slot at j) (count_cell (place_of (line c p slot j)) n) x u)
-      by n x m h (Count value next) =
-          get_or-set_other x.2 (count_cell (place_of (line c p slot j)) n) a (packed value (coding_in s c p slot at j).t) (pos 0) ((apart j l e).count (4 * n) (omega arith)) ∙ h
-      by n x m h CutCode = tt
-      by n x m h (HighCode value) = tt
-      by n x m h (LongCode k) = tt
+      by n x m h (Ok k) =
+          get_or-set_other x.2 (count_cell (place_of (line c p slot j)) n) a (packed k.m (coding_in s c p slot at j).t) (pos 0) ((apart j l e).count (4 * n) (omega arith)) ∙ h
+      by n x m h (Err f) = tt

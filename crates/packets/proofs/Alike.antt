@@ -1,5 +1,6 @@
 -- A packet depends on its precinct's header, on the fields of its own header and on the bytes of its subpackets: streams that are the same in these leave the
 -- same. An accepted packet so depends on the bytes of its precinct. Assumes nothing.
+use Rattle.std.specs.Prelude.{Ok, Err}
 use Prim.Native.Nat.{ℕ, zero, suc, ◌+◌, ◌-◌, ◌*◌, ◌/◌, ◌^◌, ◌≤◌, ◌<◌}
 use mathlib.Core.Path.{◌≡◌, refl, ◌∙◌}
 use mathlib.Core.Bool.{Bool, true, false, not, cond, ◌&&◌}
@@ -11,9 +12,7 @@ use lib.ListN.{get_or}
 use Rattle.whole.specs.Numbers.{ceil_div}
 use Rattle.loops.specs.Run.{go}
 use Rattle.loops.proofs.Same.{run_same}
-use Rattle.rows.specs.Rows.{check, ample, first, each}
-use Rattle.rows.specs.declared.Verdict.{Verdict}
-use Rattle.rows.specs.declared.Verdict.TheVariants.{Fine, Refused}
+use Rattle.rows.specs.Rows.{check, ample, first, each, Fine, Verdict}
 use Rattle.rows.specs.declared.Row.TheVariants.{Length, Count, Mode}
 use Rattle.rows.specs.declared.Field.TheVariants.{Packet, Dr, Significance, Counts, M, Ones, Data, Signs}
 use Rattle.bits.specs.Packet.{header_bits, header_bytes}
@@ -23,8 +22,8 @@ use Rattle.layout.specs.Bands.{NL, band_exists}
 use Rattle.layout.specs.Headers.{mode_bit, header_bytes_of}
 use Rattle.layout.specs.Slots.{candidates, sharing}
 use Rattle.layout.proofs.Sums.{modes_past}
-use Rattle.counts.specs.declared.Line.{Line as Counted}
-use Rattle.counts.specs.declared.Line.TheVariants.{Done, Cut, High, Long}
+use Rattle.counts.specs.Lines.{Line as LineCounts, end as counts_left}
+use Rattle.counts.specs.declared.group.Fault.TheVariants.{Cut, High, Long}
 use Rattle.counts.specs.Lines.{line_counts}
 use Rattle.packets.specs.declared.Setting.{Setting}
 use Rattle.packets.specs.declared.Precinct.{Precinct}
@@ -66,7 +65,7 @@ module _ (s s' : List ℕ) (c : Setting) (p : Precinct) (slot : ℕ) (slotted : 
   counts_alike : (cnt sig : List ℕ) (raw : Bool) (cells : List ℤ) → packet_counts s' c p slot cnt sig raw cells ≡ packet_counts s c p slot cnt sig raw cells
   unfolding packet_counts count_turn
   counts_alike cnt sig raw cells =
-      run_same (count_turn s c p slot cnt sig raw) (count_turn s' c p slot cnt sig raw) (λ x. (Done x.0 x.1, x.2)) (candidates c.shape slot)
+      run_same (count_turn s c p slot cnt sig raw) (count_turn s' c p slot cnt sig raw) counts_left (candidates c.shape slot)
       (λ j x l. by j x l (line c p slot j).present refl) (candidates c.shape slot) 0 (0, 0, cells) (omega arith)
     where
       by : (j : ℕ) (x : Counting) → j < candidates c.shape slot → (b : Bool) → (line c p slot j).present ≡ b
@@ -109,15 +108,15 @@ module _ (s s' : List ℕ) (c : Setting) (p : Precinct) (slot : ℕ) (slotted : 
         ∷ check Length cnt Counts (lcnt i) 0 (p.end - cnt)
         ∷ []))
 
-    counted_alike : (k : Counted) → count_checks s' c p slot at k ++ data_checks s' c p slot at k ≡ count_checks s c p slot at k ++ data_checks s c p slot at k
-    counted_alike (Done next need) = λ i.
+    counted_alike : (k : LineCounts) → count_checks s' c p slot at k ++ data_checks s' c p slot at k ≡ count_checks s c p slot at k ++ data_checks s c p slot at k
+    counted_alike (Ok r) = λ i.
         check Length (dat_alike i) Data (ldat i) 0 (p.end - dat_alike i)
-        ∷ check Length (dat_alike i) Data (ldat i) (ceil_div need 2) ample
+        ∷ check Length (dat_alike i) Data (ldat i) (ceil_div r.need 2) ample
         ∷ check Length (dat_alike i + ldat i) Signs (signs i) 0 (p.end - (dat_alike i + ldat i))
         ∷ []
-    counted_alike Cut = λ i. check Length (sig_at s c p slot at + sig_alike i) Counts (lcnt i) (lcnt i + 1) ample ∷ []
-    counted_alike (High m) = λ i. check Count (sig_at s c p slot at + sig_alike i) M m 0 31 ∷ []
-    counted_alike (Long n) = λ i. check Count (sig_at s c p slot at + sig_alike i) Ones n 0 (2 ^ (c.br + 1) - 1) ∷ []
+    counted_alike (Err Cut) = λ i. check Length (sig_at s c p slot at + sig_alike i) Counts (lcnt i) (lcnt i + 1) ample ∷ []
+    counted_alike (Err (High m)) = λ i. check Count (sig_at s c p slot at + sig_alike i) M m 0 31 ∷ []
+    counted_alike (Err (Long n)) = λ i. check Count (sig_at s c p slot at + sig_alike i) Ones n 0 (2 ^ (c.br + 1) - 1) ∷ []
 
     sign_checks_alike : (used : ℕ) → sign_checks s' c p slot at used ≡ sign_checks s c p slot at used
     sign_checks_alike used = λ i. check Length (dat_alike i + ldat i) Signs (signs i) (ceil_div used 8) ample ∷ []
@@ -132,14 +131,14 @@ module _ (s s' : List ℕ) (c : Setting) (p : Precinct) (slot : ℕ) (slotted : 
           (λ i. packet_values c p slot (stretch s' (dat_alike i) (ldat i)) (stretch s' (dat_alike i + ldat i) (signs i)) cells) ∙ (λ i. packet_values c p slot (dat i) (sgn i) cells)
 
       values_alike : (v : Verdict) (cells : List ℤ) → values_by s' c p slot at v cells ≡ values_by s c p slot at v cells
-      values_alike Fine cells =
+      values_alike (Ok _) cells =
           (λ i. after_values s' c p slot at (packet_values_alike cells i))
           ∙ (λ i.
           let x = packet_values c p slot (data_bytes s c p slot at) (sign_bytes s c p slot at) cells in
           (first (sign_checks_alike x.0.sign i), x.1))
-      values_alike (Refused k) cells = refl
+      values_alike (Err k) cells = refl
 
-      after_alike : (x : Counted × List ℤ) → after_counts s' c p slot at x ≡ after_counts s c p slot at x
+      after_alike : (x : LineCounts × List ℤ) → after_counts s' c p slot at x ≡ after_counts s c p slot at x
       after_alike x =
           (λ i. values_by s' c p slot at (first (counted_alike x.0 i)) x.1)
           ∙ values_alike (first (count_checks s c p slot at x.0 ++ data_checks s c p slot at x.0)) x.1
@@ -159,8 +158,8 @@ module _ (s s' : List ℕ) (c : Setting) (p : Precinct) (slot : ℕ) (slotted : 
       packet_alike raws cells = (λ i. counts_by s' c p slot at (first (head_checks_alike raws i)) cells) ∙ by (first (head_checks s c p slot at raws))
         where
           by : (v : Verdict) → counts_by s' c p slot at v cells ≡ counts_by s c p slot at v cells
-          by Fine = (λ i. after_counts s' c p slot at (counts_of_alike cells i)) ∙ after_alike (counts_of s c p slot at cells)
-          by (Refused k) = refl
+          by (Ok _) = (λ i. after_counts s' c p slot at (counts_of_alike cells i)) ∙ after_alike (counts_of s c p slot at cells)
+          by (Err k) = refl
 
       -- and the same pieces
       pub pieces_alike : (cells : List ℤ) → packet_pieces s' c p slot at cells ≡ packet_pieces s c p slot at cells

@@ -1,4 +1,5 @@
 -- What an accepted packet writes: each coefficient of its lines, by the quantiser and T of its own precinct and band. Assumes nothing.
+use Rattle.std.specs.Prelude.{Ok, Err}
 use mathlib.Core.Path.{◌≡◌, refl, sym, ap, ◌∙◌}
 use mathlib.Core.Bool.{Bool, true, false, cond}
 use mathlib.Core.List.{List, ◌++◌}
@@ -9,9 +10,7 @@ use native.Mathlib.Omega.{arith}
 use lib.IntN.{ℤ, nat_abs}
 use lib.ListN.{length}
 use Rattle.whole.specs.Cells.{cell}
-use Rattle.rows.specs.Rows.{first}
-use Rattle.rows.specs.declared.Verdict.{Verdict}
-use Rattle.rows.specs.declared.Verdict.TheVariants.{Fine, Refused}
+use Rattle.rows.specs.Rows.{first, Fine, Verdict}
 use Rattle.quantiser.specs.Inverse.{coefficient_of, scaled, Carried}
 use Rattle.layout.specs.Cells.{start}
 use Rattle.layout.specs.Slots.{candidates, line as line_of, line_at}
@@ -155,8 +154,8 @@ module _ (c : Setting) (p : Precinct) (slot : ℕ) (h : Slotted c p slot) (j x :
 
     by_values : (v : Verdict) (cells : List ℤ) (room : start c.shape c.shape.nc ≤ length cells) → (values_by s c p slot at v cells).0 ≡ Fine
         → Written dat sgn cells room (values_by s c p slot at v cells).1
-    by_values Fine cells room e = values_write dat sgn cells room
-    by_values (Refused r) cells room e = clash e
+    by_values (Ok _) cells room e = values_write dat sgn cells room
+    by_values (Err r) cells room e = clash e
 
     counts_room : (cells : List ℤ) → start c.shape c.shape.nc ≤ length cells → start c.shape c.shape.nc ≤ length (counts_of s c p slot at cells).1
     counts_room cells room =
@@ -167,10 +166,10 @@ module _ (c : Setting) (p : Precinct) (slot : ℕ) (h : Slotted c p slot) (j x :
 
     by_counts : (v : Verdict) (cells : List ℤ) (room : start c.shape c.shape.nc ≤ length cells) → (counts_by s c p slot at v cells).0 ≡ Fine
         → Written dat sgn (counts_of s c p slot at cells).1 (counts_room cells room) (counts_by s c p slot at v cells).1
-    by_counts Fine cells room e =
+    by_counts (Ok _) cells room e =
         let y = counts_of s c p slot at cells in
         by_values (first (count_checks s c p slot at y.0 ++ data_checks s c p slot at y.0)) y.1 (counts_room cells room) e
-    by_counts (Refused r) cells room e = clash e
+    by_counts (Err r) cells room e = clash e
 
     module _ (raws : List ℕ) (cells : List ℤ) (room : start c.shape c.shape.nc ≤ length cells) (fine : (packet s c p slot at raws cells).0 ≡ Fine) where
       written : Written dat sgn (counts_of s c p slot at cells).1 (counts_room cells room) (packet s c p slot at raws cells).1

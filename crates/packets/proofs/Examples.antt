@@ -5,8 +5,7 @@ use mathlib.Core.Path.{◌≡◌, refl}
 use Prim.Native.Nat.{ℕ}
 use lib.IntN.{ℤ, pos, negsuc}
 use Rattle.loops.specs.Run.{run}
-use Rattle.rows.specs.Rows.{each, check, ample}
-use Rattle.rows.specs.declared.Verdict.TheVariants.{Fine, Refused}
+use Rattle.rows.specs.Rows.{each, check, ample, Fine, Refused}
 use Rattle.rows.specs.declared.Row.TheVariants.{Length}
 use Rattle.rows.specs.declared.Field.TheVariants.{Data}
 use Rattle.bits.specs.Fields.{bit_at, field}

@@ -9,9 +9,8 @@ use native.Mathlib.Omega.{arith}
 use borrow.Author.Tests.{le-ltb, lt-leb, le-leb}
 use lib.Dec.{leb}
 use lib.ListN.{get_or}
-use Rattle.rows.specs.Rows.{check, first, each}
+use Rattle.rows.specs.Rows.{check, first, each, Fine}
 use Rattle.rows.specs.declared.Check.{Check}
-use Rattle.rows.specs.declared.Verdict.TheVariants.{Fine}
 use Rattle.rows.specs.declared.Row.TheVariants.{Mode}
 use Rattle.rows.specs.declared.Field.TheVariants.{Dr}
 use Rattle.rows.proofs.Tables.{each_all, each_same}

@@ -1,4 +1,5 @@
 -- What a packet leaves, for the layers above: where it ends, and which cells it changes. Assumes nothing.
+use Rattle.std.specs.Prelude.{Ok, Err}
 use mathlib.Core.Path.{◌≡◌, refl, ◌∙◌}
 use mathlib.Core.Bool.{Bool, true, false, cond}
 use mathlib.Core.List.{List, ◌++◌}
@@ -13,16 +14,14 @@ use lib.ListN.{length, set, length-set}
 use Rattle.whole.specs.Cells.{cell, Bounded}
 use Rattle.loops.specs.Run.{go}
 use Rattle.loops.proofs.Laws.{Kept, run_keeps}
-use Rattle.rows.specs.Rows.{first}
+use Rattle.rows.specs.Rows.{first, Fine, Refused, Verdict}
 use Rattle.rows.specs.declared.Check.{Check}
-use Rattle.rows.specs.declared.Verdict.{Verdict}
-use Rattle.rows.specs.declared.Verdict.TheVariants.{Fine, Refused}
 use Rattle.rows.proofs.Tables.{held}
 use Rattle.layout.specs.declared.Line.{Line}
 use Rattle.layout.specs.Slots.{candidates}
 use Rattle.counts.specs.declared.group.Coding.{Coding}
-use Rattle.counts.specs.declared.Line.{Line as Counted}
-use Rattle.counts.specs.declared.Line.TheVariants.{Done, Cut, High, Long}
+use Rattle.counts.specs.Lines.{Line as LineCounts}
+use Rattle.counts.specs.declared.group.Fault.TheVariants.{Cut, High, Long}
 use Rattle.counts.specs.Lines.{line_counts, Founded}
 use Rattle.counts.proofs.Laws.{line_founded, line_keeps, line_length as counts_length, line_other as counts_other}
 use Rattle.values.specs.declared.Next.{Next}
@@ -40,14 +39,12 @@ use Rattle.packets.proofs.Stretches.{head_inside}
 -- ---- the counts of a packet are refused for what is out of range, as each line's are
 
 module _ (s : List ℕ) (c : Setting) (p : Precinct) (slot : ℕ) (cnt sig : List ℕ) (raw : Bool) where
-  abbrev Stands : Counted × List ℤ → Type 0
+  abbrev Stands : LineCounts × List ℤ → Type 0
   Stands x = Founded c.br x.0
 
-  counted_founded : (need : ℕ) (x : Counted × List ℤ) → Stands x → Kept (λ (y : Counting). Unit {0}) Stands (counted need x)
-  counted_founded need (Done next more, cells) h = tt
-  counted_founded need (Cut, cells) h = tt
-  counted_founded need (High m, cells) h = h
-  counted_founded need (Long n, cells) h = h
+  counted_founded : (need : ℕ) (x : LineCounts × List ℤ) → Stands x → Kept (λ (y : Counting). Unit {0}) Stands (counted need x)
+  counted_founded need (Ok k, cells) h = tt
+  counted_founded need (Err f, cells) h = h
 
   pub counts_founded : (cells : List ℤ) → Founded c.br (packet_counts s c p slot cnt sig raw cells).0
   unfolding packet_counts count_turn
@@ -70,36 +67,36 @@ clash e = let z : ◌≡◌ {A = ℕ} 0 1 = cc in absurd (omega arith)
 
 module _ (s : List ℕ) (c : Setting) (p : Precinct) (slot at : ℕ) where
   pub values_fine : (v : Verdict) (cells : List ℤ) → (values_by s c p slot at v cells).0 ≡ Fine → v ≡ Fine
-  values_fine Fine cells e = refl
-  values_fine (Refused k) cells e = clash e
+  values_fine (Ok _) cells e = refl
+  values_fine (Err k) cells e = clash e
 
   -- counts that are cut, or too high, or of codes that are too long, refuse the packet
-  pub cut_refused : (cells : List ℤ) → (after_counts s c p slot at (Cut, cells)).0 ≡ Fine → ⊥
+  pub cut_refused : (cells : List ℤ) → (after_counts s c p slot at (Err Cut, cells)).0 ≡ Fine → ⊥
   cut_refused cells e =
-      let t = held (count_checks s c p slot at Cut) (values_fine _ cells e) in
+      let t = held (count_checks s c p slot at (Err Cut)) (values_fine _ cells e) in
       omega (arith, t.0.least)
 
-  pub high_refused : (m : ℕ) (cells : List ℤ) → 31 < m → (after_counts s c p slot at (High m, cells)).0 ≡ Fine → ⊥
+  pub high_refused : (m : ℕ) (cells : List ℤ) → 31 < m → (after_counts s c p slot at (Err (High m), cells)).0 ≡ Fine → ⊥
   high_refused m cells h e =
-      let t = held (count_checks s c p slot at (High m)) (values_fine _ cells e) in
+      let t = held (count_checks s c p slot at (Err (High m))) (values_fine _ cells e) in
       omega (arith, t.0.most)
 
-  pub long_refused : (n : ℕ) (cells : List ℤ) → 2 ^ (c.br + 1) ≤ n → (after_counts s c p slot at (Long n, cells)).0 ≡ Fine → ⊥
+  pub long_refused : (n : ℕ) (cells : List ℤ) → 2 ^ (c.br + 1) ≤ n → (after_counts s c p slot at (Err (Long n), cells)).0 ≡ Fine → ⊥
   long_refused n cells h e =
-      let t = held (count_checks s c p slot at (Long n)) (values_fine _ cells e) in
+      let t = held (count_checks s c p slot at (Err (Long n))) (values_fine _ cells e) in
       omega (arith, t.0.most, pow_pos (c.br + 1))
 
-  after_fine : (x : Counted × List ℤ) → Founded c.br x.0 → dat_at s c p slot at ≤ p.end → (after_counts s c p slot at x).0 ≡ Fine → past s c p slot at ≤ p.end
-  after_fine (Done next need, cells) f h e =
-      let t = held (data_checks s c p slot at (Done next need)) (values_fine _ cells e) in
+  after_fine : (x : LineCounts × List ℤ) → Founded c.br x.0 → dat_at s c p slot at ≤ p.end → (after_counts s c p slot at x).0 ≡ Fine → past s c p slot at ≤ p.end
+  after_fine (Ok k, cells) f h e =
+      let t = held (data_checks s c p slot at (Ok k)) (values_fine _ cells e) in
       omega (arith, t.0.most, t.1.1.0.most)
-  after_fine (Cut, cells) f h e = absurd (cut_refused cells e)
-  after_fine (High m, cells) f h e = absurd (high_refused m cells f e)
-  after_fine (Long n, cells) f h e = absurd (long_refused n cells f e)
+  after_fine (Err Cut, cells) f h e = absurd (cut_refused cells e)
+  after_fine (Err (High m), cells) f h e = absurd (high_refused m cells f e)
+  after_fine (Err (Long n), cells) f h e = absurd (long_refused n cells f e)
 
   counts_fine : (v : Verdict) (cells : List ℤ) → (v ≡ Fine → dat_at s c p slot at ≤ p.end) → (counts_by s c p slot at v cells).0 ≡ Fine → past s c p slot at ≤ p.end
-  counts_fine Fine cells h e = after_fine (counts_of s c p slot at cells) (counts_founded s c p slot _ _ _ cells) (h refl) e
-  counts_fine (Refused k) cells h e = clash e
+  counts_fine (Ok _) cells h e = after_fine (counts_of s c p slot at cells) (counts_founded s c p slot _ _ _ cells) (h refl) e
+  counts_fine (Err k) cells h e = clash e
 
   -- where nothing is refused, not past its precinct
   pub packet_inside : (raws : List ℕ) (cells : List ℤ) → at ≤ p.end → (packet s c p slot at raws cells).0 ≡ Fine → past s c p slot at ≤ p.end
@@ -119,20 +116,18 @@ module _ (c : Setting) (p : Precinct) (slot : ℕ) (P : List ℤ → Type 0) whe
       (j : ℕ) → j < candidates c.shape slot → (line c p slot j).present ≡ true
       → (dat sgn : List ℕ) (from : Next) (cells : List ℤ) → P cells → P (line_values dat sgn (values_of c) (valued c p (line c p slot j)) from cells).1
 
-  counted_keeps : (need : ℕ) (x : Counted × List ℤ) → P x.1 → Kept (λ (x : Counting). P x.2) (λ (x : Counted × List ℤ). P x.1) (counted need x)
-  counted_keeps need (Done next more, cells) h = h
-  counted_keeps need (Cut, cells) h = h
-  counted_keeps need (High m, cells) h = h
-  counted_keeps need (Long n, cells) h = h
+  counted_keeps : (need : ℕ) (x : LineCounts × List ℤ) → P x.1 → Kept (λ (x : Counting). P x.2) (λ (x : LineCounts × List ℤ). P x.1) (counted need x)
+  counted_keeps need (Ok k, cells) h = h
+  counted_keeps need (Err f, cells) h = h
 
   pub counts_keep : CountsKeep → (s cnt sig : List ℕ) (raw : Bool) (cells : List ℤ) → P cells → P (packet_counts s c p slot cnt sig raw cells).1
   unfolding packet_counts count_turn
   counts_keep counts s cnt sig raw cells h =
-      run_keeps (λ (x : Counting). P x.2) (λ (x : Counted × List ℤ). P x.1) (count_turn s c p slot cnt sig raw) _ (candidates c.shape slot)
+      run_keeps (λ (x : Counting). P x.2) (λ (x : LineCounts × List ℤ). P x.1) (count_turn s c p slot cnt sig raw) _ (candidates c.shape slot)
       (λ x k. k) (λ j x l k. pick j x l k (line c p slot j).present refl) (candidates c.shape slot) 0 (0, 0, cells) (omega arith) h
     where
       pick : (j : ℕ) (x : Counting) → j < candidates c.shape slot → P x.2 → (b : Bool) → (line c p slot j).present ≡ b
-          → Kept (λ (x : Counting). P x.2) (λ (x : Counted × List ℤ). P x.1)
+          → Kept (λ (x : Counting). P x.2) (λ (x : LineCounts × List ℤ). P x.1)
           (cond b (counted x.1 (line_counts cnt sig (coding_of s c p raw (line c p slot j).band) (place_of (line c p slot j)) x.0 (marks s c p slot raw j) x.2)) (go x))
       pick j x l k true e =
           let code = coding_of s c p raw (line c p slot j).band in
@@ -152,14 +147,14 @@ module _ (c : Setting) (p : Precinct) (slot : ℕ) (P : List ℤ → Type 0) whe
 
   module _ (counts : CountsKeep) (values : ValuesKeep) (s : List ℕ) (at : ℕ) where
     by_values : (v : Verdict) (cells : List ℤ) → P cells → P (values_by s c p slot at v cells).1
-    by_values Fine cells h = values_keep values _ _ cells h
-    by_values (Refused k) cells h = h
+    by_values (Ok _) cells h = values_keep values _ _ cells h
+    by_values (Err k) cells h = h
 
     by_counts : (v : Verdict) (cells : List ℤ) → P cells → P (counts_by s c p slot at v cells).1
-    by_counts Fine cells h =
+    by_counts (Ok _) cells h =
         let x = counts_of s c p slot at cells in
         by_values (first (count_checks s c p slot at x.0 ++ data_checks s c p slot at x.0)) x.1 (counts_keep counts s _ _ _ cells h)
-    by_counts (Refused k) cells h = h
+    by_counts (Err k) cells h = h
 
     pub packet_keeps : (raws : List ℕ) (cells : List ℤ) → P cells → P (packet s c p slot at raws cells).1
     unfolding packet

@@ -1,4 +1,6 @@
 -- Laws of the passes. Assumes nothing.
+use Rattle.counts.specs.declared.Counted.{Counted}
+use Rattle.std.specs.Prelude.{Ok, Err}
 use mathlib.Core.Path.{◌≡◌, refl, sym, ap, ◌∙◌}
 use mathlib.Core.Bool.{Bool, true, false, not, cond, ◌&&◌, ◌||◌}
 use mathlib.Core.List.{List}
@@ -19,8 +21,7 @@ use Rattle.layout.specs.Headers.{mode_bit, truncation}
 use Rattle.layout.specs.Cells.{start}
 use Rattle.counts.specs.declared.group.Coding.{Coding}
 use Rattle.counts.specs.declared.group.Mode.TheVariants.{NoPrediction, Vertical}
-use Rattle.counts.specs.declared.Line.{Line as Counted}
-use Rattle.counts.specs.declared.Line.TheVariants.{Done}
+use Rattle.counts.specs.Lines.{Line as LineCounts}
 use Rattle.counts.specs.Lines.{line_counts, Ready}
 use Rattle.counts.proofs.Laws.{done_need}
 use Rattle.values.specs.declared.Next.{Next}
@@ -132,36 +133,40 @@ count_ready s c p raw l {n = n} e set at lies short near = rw e (record {
 })
 
 module _ (s : List ℕ) (c : Setting) (p : Precinct) (cnt sig : List ℕ) (raw : Bool) where
-  pub count_there : (l : Line) (at z : ℕ) (cells : List ℤ) {k : Coding} {r : Counted} {cells' : List ℤ} → l.present ≡ true → k ≡ coding_of s c p raw l.band
+  pub count_there : (l : Line) (at z : ℕ) (cells : List ℤ) {k : Coding} {r : LineCounts} {cells' : List ℤ} → l.present ≡ true → k ≡ coding_of s c p raw l.band
       → line_counts cnt sig k (place_of l) at z cells ≡ (r, cells') → count_line s c p cnt sig raw l at z cells ≡ (r, cells')
   count_there l at z cells h e f = rw h (rw e at f)
 
-  pub count_absent : (l : Line) (at z : ℕ) (cells : List ℤ) → l.present ≡ false → count_line s c p cnt sig raw l at z cells ≡ (Done at 0, cells)
+  pub count_absent : (l : Line) (at z : ℕ) (cells : List ℤ) → l.present ≡ false → count_line s c p cnt sig raw l at z cells ≡ (Ok (record { next = at; need = 0 }), cells)
   count_absent l at z cells h = rw h
 
+  asked : LineCounts → ℕ
+  asked (Ok k) = k.need
+  asked (Err f) = 0
+
   -- a line asks for few nibbles
-  pub count_few : (l : Line) (at z : ℕ) (cells : List ℤ) {r : Counted} {cells' : List ℤ} {next more : ℕ} → (l.present ≡ true → Lies c.shape p.row l)
-      → count_line s c p cnt sig raw l at z cells ≡ (r, cells') → r ≡ Done next more → more ≤ 2 ^ 36
-  count_few l at z cells {r} {cells'} {next} {more} lies e f = pick l.present refl (e ∙ ap (λ (r : Counted). (r, cells')) f)
+  pub count_few : (l : Line) (at z : ℕ) (cells : List ℤ) {r : LineCounts} {cells' : List ℤ} {k : Counted} → (l.present ≡ true → Lies c.shape p.row l)
+      → count_line s c p cnt sig raw l at z cells ≡ (r, cells') → r ≡ Ok k → k.need ≤ 2 ^ 36
+  unfolding asked
+  count_few l at z cells {r} {cells'} {k} lies e f = pick l.present refl (e ∙ ap (λ (r : LineCounts). (r, cells')) f)
     where
-      pick : (b : Bool) → l.present ≡ b → cond b (line_counts cnt sig (coding_of s c p raw l.band) (place_of l) at z cells) (Done at 0, cells) ≡ (Done next more, cells') → more ≤ 2 ^ 36
+      pick : (b : Bool) → l.present ≡ b → cond b (line_counts cnt sig (coding_of s c p raw l.band) (place_of l) at z cells) (Ok (record { next = at; need = 0 }), cells) ≡ (Ok k, cells') → k.need ≤ 2 ^ 36
       pick true h e = omega (arith, done_need cnt sig (coding_of s c p raw l.band) (place_of l) at z cells e, (lies h).narrow)
       pick false h e =
-          let done : Done at 0 ≡ Done next more = ap (λ (x : Counted × List ℤ). x.0) e in
-          let none : 0 ≡ more = cc in
+          let none : 0 ≡ k.need = ap (λ (x : LineCounts × List ℤ). asked x.0) e in
           omega arith
 
   -- a turn, as the code takes it
-  by_present : (b : Bool) (need at : ℕ) (a : Counted × List ℤ) (cells : List ℤ) → cond b (counted need a) (go (at, need, cells)) ≡ counted need (cond b a (Done at 0, cells))
+  by_present : (b : Bool) (need at : ℕ) (a : LineCounts × List ℤ) (cells : List ℤ) → cond b (counted need a) (go (at, need, cells)) ≡ counted need (cond b a (Ok (record { next = at; need = 0 }), cells))
   by_present true need at a cells = refl
   by_present false need at a cells = ap (λ (n : ℕ). go (at, n, cells)) (sym (add-zero need))
 
-  pub count_turn_lem : (slot j at need : ℕ) (cells : List ℤ) {l : Line} {z : ℕ} {r y : Counted} {cells' : List ℤ} → l ≡ line c p slot j → z ≡ marks s c p slot raw j
+  pub count_turn_lem : (slot j at need : ℕ) (cells : List ℤ) {l : Line} {z : ℕ} {r y : LineCounts} {cells' : List ℤ} → l ≡ line c p slot j → z ≡ marks s c p slot raw j
       → count_line s c p cnt sig raw l at z cells ≡ (r, cells') → r ≡ y → count_turn s c p slot cnt sig raw j (at, need, cells) ≡ counted need (y, cells')
   unfolding count_turn
   count_turn_lem slot j at need cells {cells' = cells'} e q f g =
       by_present (line c p slot j).present need at _ cells
-      ∙ ap (counted need) (rw (e, q) at f ∙ ap (λ (r : Counted). (r, cells')) g)
+      ∙ ap (counted need) (rw (e, q) at f ∙ ap (λ (r : LineCounts). (r, cells')) g)
 
 -- ---- a line of values
 

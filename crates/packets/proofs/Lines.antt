@@ -106,3 +106,8 @@ stride_some c p slot j = pow_pos (dx c.shape (slot_type c.shape slot + j / c.sha
 pub lies_read : {c : Setting} {p : Precinct} {slot j : ℕ} {l : Line} → Slotted c p slot → j < candidates c.shape slot → l ≡ line c p slot j
     → l.present ≡ true → Lies c.shape p.row l
 lies_read {c} {p} {slot} {j} h k e f = rw e (lies c p slot j h k (rw e at f))
+
+-- the same of one of n candidates, which are the slot's
+pub lies_among : {c : Setting} {p : Precinct} {slot n j : ℕ} {l : Line} → Slotted c p slot → n ≡ candidates c.shape slot → j < n → l ≡ line c p slot j
+    → l.present ≡ true → Lies c.shape p.row l
+lies_among h m k e = lies_read h (omega (arith, m)) e

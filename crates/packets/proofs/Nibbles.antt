@@ -1,4 +1,6 @@
 -- The nibbles of data that a packet's counts ask for, by which the data's length is judged, are those that are read. Assumes nothing.
+use Rattle.counts.specs.declared.Counted.{Counted}
+use Rattle.std.specs.Prelude.{Ok, Err}
 use mathlib.Core.Path.{◌≡◌, refl, sym, ap, ◌∙◌}
 use mathlib.Core.Bool.{Bool, true, false, cond}
 use mathlib.Core.List.{List}
@@ -11,16 +13,14 @@ use Rattle.bits.specs.Groups.{Ng, Ncg, held_m}
 use Rattle.whole.specs.Numbers.{ceil_div}
 use Rattle.loops.specs.Run.{go}
 use Rattle.loops.proofs.Laws.{Kept, run_carries}
-use Rattle.rows.specs.Rows.{first}
-use Rattle.rows.specs.declared.Verdict.{Verdict}
-use Rattle.rows.specs.declared.Verdict.TheVariants.{Fine, Refused}
+use Rattle.rows.specs.Rows.{first, Fine, Verdict}
 use Rattle.rows.proofs.Tables.{held}
 use Rattle.layout.specs.declared.Line.{Line}
 use Rattle.layout.specs.Cells.{start}
 use Rattle.layout.specs.Slots.{candidates}
 use Rattle.counts.specs.Lines.{count_cell, line_counts, Founded}
-use Rattle.counts.specs.declared.Line.{Line as Counted}
-use Rattle.counts.specs.declared.Line.TheVariants.{Done, Cut, High, Long}
+use Rattle.counts.specs.Lines.{Line as LineCounts}
+use Rattle.counts.specs.declared.group.Fault.TheVariants.{Cut, High, Long}
 use Rattle.counts.proofs.Laws.{total, total_more, total_none, takes, done_sum, line_length as counts_length, line_other as counts_other}
 use Rattle.values.specs.declared.Next.{Next}
 use Rattle.values.specs.Line.{count_place, M, line_values}
@@ -43,10 +43,10 @@ module _ (s : List ℕ) (c : Setting) (p : Precinct) (raw : Bool) (l : Line) whe
   nibbles_sum cells zero = refl
   nibbles_sum cells (suc n) = ap (λ (k : ℕ). k + takes (coding_of s c p raw l.band) (place_of l) cells n) (nibbles_sum cells n)
 
-  line_need : (cnt sig : List ℕ) (i z : ℕ) (cells : List ℤ) {next need : ℕ} {after : List ℤ}
-      → line_counts cnt sig (coding_of s c p raw l.band) (place_of l) i z cells ≡ (Done next need, after)
+  line_need : (cnt sig : List ℕ) (i z : ℕ) (cells : List ℤ) {k : Counted} {after : List ℤ}
+      → line_counts cnt sig (coding_of s c p raw l.band) (place_of l) i z cells ≡ (Ok k, after)
       → ((g : ℕ) → g < Ncg l.width → count_cell (place_of l) g < length cells) → 0 < l.stride
-      → need ≡ nibbles (valued c p l) after c.fs (Ncg l.width)
+      → k.need ≡ nibbles (valued c p l) after c.fs (Ncg l.width)
   line_need cnt sig i z cells {after = after} e inside wide =
       done_sum cnt sig (coding_of s c p raw l.band) (place_of l) i z cells e inside wide ∙ nibbles_sum after (Ncg l.width)
 
@@ -72,7 +72,7 @@ module _ (c : Setting) (p : Precinct) (slot : ℕ) (h : Slotted c p slot) where
 
   -- ---- the counts
   module _ (s cnt sig : List ℕ) (raw : Bool) (cells : List ℤ) (room : start c.shape c.shape.nc ≤ length cells) where
-    abbrev counting : ℕ → Counting → Counted × List ℤ
+    abbrev counting : ℕ → Counting → LineCounts × List ℤ
     counting n x = line_counts cnt sig (coding_of s c p raw (line c p slot n).band) (place_of (line c p slot n)) x.0 (marks s c p slot raw n) x.2
 
     -- line n writes over no count of another line
@@ -89,27 +89,23 @@ module _ (c : Setting) (p : Precinct) (slot : ℕ) (h : Slotted c p slot) where
     abbrev Carries : ℕ → Counting → Type 0
     Carries n x = (length x.2 ≡ length cells) × (x.1 ≡ total (asked x.2) n)
 
-    abbrev Asked : Counted × List ℤ → Type 0
-    Asked (Done next need, l) = need ≡ total (asked l) (candidates c.shape slot)
-    Asked (Cut, l) = Unit {0}
-    Asked (High m, l) = Unit {0}
-    Asked (Long n, l) = Unit {0}
+    abbrev Asked : LineCounts × List ℤ → Type 0
+    Asked (Ok k, l) = k.need ≡ total (asked l) (candidates c.shape slot)
+    Asked (Err f, l) = Unit {0}
 
-    by_result : (n : ℕ) (x : Counting) → n < candidates c.shape slot → Carries n x → (line c p slot n).present ≡ true → (y : Counted × List ℤ)
+    by_result : (n : ℕ) (x : Counting) → n < candidates c.shape slot → Carries n x → (line c p slot n).present ≡ true → (y : LineCounts × List ℤ)
         → counting n x ≡ y → Kept (Carries (n + 1)) Asked (counted x.1 y)
-    by_result n x l q e (Done next more, l') r = (
-      ap (λ (y : Counted × List ℤ). length y.1) (sym r)
+    by_result n x l q e (Ok k, l') r = (
+      ap (λ (y : LineCounts × List ℤ). length y.1) (sym r)
           ∙ counts_length cnt sig _ (place_of (line c p slot n)) x.0 (marks s c p slot raw n) x.2
           ∙ q.0,
-      total_more (asked x.2) (asked l') n x.1 more q.1
-          (λ j k. asked_same x.2 l' j (rw (ap (λ (y : Counted × List ℤ). y.1) r) at (leaves n x l e j k)))
+      total_more (asked x.2) (asked l') n x.1 k.need q.1
+          (λ j k. asked_same x.2 l' j (rw (ap (λ (y : LineCounts × List ℤ). y.1) r) at (leaves n x l e j k)))
           (rw e
           (line_need s c p raw (line c p slot n) cnt sig x.0 (marks s c p slot raw n) x.2 r
           (λ g m. omega (arith, q.0, (lies c p slot n h l e).inside (Ng * g) (omega arith))) (stride_some c p slot n))),
     )
-    by_result n x l q e (Cut, l') r = tt
-    by_result n x l q e (High m, l') r = tt
-    by_result n x l q e (Long k, l') r = tt
+    by_result n x l q e (Err f, l') r = tt
 
     pick : (n : ℕ) (x : Counting) → n < candidates c.shape slot → Carries n x → (b : Bool) → (line c p slot n).present ≡ b
         → Kept (Carries (n + 1)) Asked (cond b (counted x.1 (counting n x)) (go x))
@@ -156,12 +152,12 @@ module _ (c : Setting) (p : Precinct) (slot : ℕ) (h : Slotted c p slot) where
 
   -- ---- both: whatever the data and the signs are, counts that are done ask for the nibbles that the values read
   pub need_is_read : (s cnt sig : List ℕ) (raw : Bool) (cells : List ℤ) → start c.shape c.shape.nc ≤ length cells → (dat sgn : List ℕ)
-      {next need : ℕ} {l : List ℤ} → packet_counts s c p slot cnt sig raw cells ≡ (Done next need, l) → (packet_values c p slot dat sgn l).0.at ≡ need
+      {k : Counted} {l : List ℤ} → packet_counts s c p slot cnt sig raw cells ≡ (Ok k, l) → (packet_values c p slot dat sgn l).0.at ≡ k.need
   need_is_read s cnt sig raw cells room dat sgn {l = l} e = values_read dat sgn l ∙ sym (rw e at (counts_ask s cnt sig raw cells room))
 
   -- so of a packet's own subpackets
-  pub packet_need : (s : List ℕ) (at : ℕ) (cells : List ℤ) → start c.shape c.shape.nc ≤ length cells → {next need : ℕ}
-      → (counts_of s c p slot at cells).0 ≡ Done next need → (values_after s c p slot at cells).0.at ≡ need
+  pub packet_need : (s : List ℕ) (at : ℕ) (cells : List ℤ) → start c.shape c.shape.nc ≤ length cells → {k : Counted}
+      → (counts_of s c p slot at cells).0 ≡ Ok k → (values_after s c p slot at cells).0.at ≡ k.need
   packet_need s at cells room e = need_is_read s _ _ _ cells room _ _ (λ i. (e i, (counts_of s c p slot at cells).1))
 
   -- and the data of an accepted packet hold all that is read of them
@@ -169,17 +165,17 @@ module _ (c : Setting) (p : Precinct) (slot : ℕ) (h : Slotted c p slot) where
     abbrev Held : Type 0
     Held = ceil_div (values_after s c p slot at cells).0.at 2 ≤ (head s c p slot at).ldat
 
-    by_counts : (x : Counted × List ℤ) → counts_of s c p slot at cells ≡ x → Founded c.br x.0 → (after_counts s c p slot at x).0 ≡ Fine → Held
-    by_counts (Done next need, l) e k f =
-        let t = held (data_checks s c p slot at (Done next need)) (values_fine s c p slot at _ l f) in
-        rw (packet_need s at cells room (ap (λ (x : Counted × List ℤ). x.0) e)) t.1.0.least
-    by_counts (Cut, l) e k f = absurd (cut_refused s c p slot at l f)
-    by_counts (High m, l) e k f = absurd (high_refused s c p slot at m l k f)
-    by_counts (Long n, l) e k f = absurd (long_refused s c p slot at n l k f)
+    by_counts : (x : LineCounts × List ℤ) → counts_of s c p slot at cells ≡ x → Founded c.br x.0 → (after_counts s c p slot at x).0 ≡ Fine → Held
+    by_counts (Ok r, l) e k f =
+        let t = held (data_checks s c p slot at (Ok r)) (values_fine s c p slot at _ l f) in
+        rw (packet_need s at cells room (ap (λ (x : LineCounts × List ℤ). x.0) e)) t.1.0.least
+    by_counts (Err Cut, l) e k f = absurd (cut_refused s c p slot at l f)
+    by_counts (Err (High m), l) e k f = absurd (high_refused s c p slot at m l k f)
+    by_counts (Err (Long n), l) e k f = absurd (long_refused s c p slot at n l k f)
 
     by_head : (v : Verdict) → (counts_by s c p slot at v cells).0 ≡ Fine → Held
-    by_head Fine e = by_counts (counts_of s c p slot at cells) refl (counts_founded s c p slot _ _ _ cells) e
-    by_head (Refused k) e = clash e
+    by_head (Ok _) e = by_counts (counts_of s c p slot at cells) refl (counts_founded s c p slot _ _ _ cells) e
+    by_head (Err k) e = clash e
 
     pub data_held : (raws : List ℕ) → (packet s c p slot at raws cells).0 ≡ Fine → Held
     unfolding packet

@@ -1,4 +1,6 @@
 -- The pieces of an accepted packet tile it, from its header to the place behind it, and its contents are those that the decoders come to. Assumes nothing.
+use Rattle.counts.specs.declared.Counted.{Counted}
+use Rattle.std.specs.Prelude.{Ok, Err}
 use Prim.Native.Nat.{ℕ, ◌+◌, ◌-◌, ◌*◌, ◌≤◌}
 use mathlib.Core.Bool.{Bool, true, false, cond}
 use mathlib.Core.List.{List, ◌++◌}
@@ -9,17 +11,15 @@ use lib.ListN.{length, drop, length-take}
 use Rattle.whole.specs.Numbers.{ceil_div}
 use Rattle.loops.specs.Run.{go}
 use Rattle.loops.proofs.Laws.{Kept, run_keeps}
-use Rattle.rows.specs.Rows.{first}
+use Rattle.rows.specs.Rows.{first, Fine, Refused, Verdict}
 use Rattle.rows.specs.declared.Check.{Check}
-use Rattle.rows.specs.declared.Verdict.{Verdict}
-use Rattle.rows.specs.declared.Verdict.TheVariants.{Fine, Refused}
 use Rattle.rows.proofs.Tables.{held}
 use Rattle.pieces.specs.declared.Bytes.{Bytes}
 use Rattle.pieces.specs.Pieces.{Packets, Significance, Counts, Data, Signs, total, size, bytes_of, nothing, bytes_by}
 use Rattle.layout.specs.Cells.{start}
 use Rattle.layout.specs.Slots.{candidates}
-use Rattle.counts.specs.declared.Line.{Line as Counted}
-use Rattle.counts.specs.declared.Line.TheVariants.{Done, Cut, High, Long}
+use Rattle.counts.specs.Lines.{Line as LineCounts}
+use Rattle.counts.specs.declared.group.Fault.TheVariants.{Cut, High, Long}
 use Rattle.counts.specs.Lines.{line_counts, Founded}
 use Rattle.counts.proofs.Laws.{done_to}
 use Rattle.packets.specs.declared.Setting.{Setting}
@@ -41,24 +41,20 @@ use Rattle.packets.proofs.Stretches.{long_cnt, long_dat, long_sgn, counts_stand}
 -- ---- the counts end in their stretch
 
 -- counts that are done: the next bit is not past the stretch
-abbrev Ends : ℕ → Counted × List ℤ → Type 0
-Ends bytes (Done next need, l) = next ≤ 8 * bytes
-Ends bytes (Cut, l) = Unit {0}
-Ends bytes (High m, l) = Unit {0}
-Ends bytes (Long n, l) = Unit {0}
+abbrev Ends : ℕ → LineCounts × List ℤ → Type 0
+Ends bytes (Ok k, l) = k.next ≤ 8 * bytes
+Ends bytes (Err f, l) = Unit {0}
 
 module _ (s : List ℕ) (c : Setting) (p : Precinct) (slot : ℕ) (cnt sig : List ℕ) (raw : Bool) where
-  abbrev counting : ℕ → Counting → Counted × List ℤ
+  abbrev counting : ℕ → Counting → LineCounts × List ℤ
   counting j x = line_counts cnt sig (coding_of s c p raw (line c p slot j).band) (place_of (line c p slot j)) x.0 (marks s c p slot raw j) x.2
 
   abbrev Before : Counting → Type 0
   Before x = x.0 ≤ 8 * length cnt
 
-  line_ends : (j : ℕ) (x : Counting) → Before x → (y : Counted × List ℤ) → counting j x ≡ y → Kept Before (Ends (length cnt)) (counted x.1 y)
-  line_ends j x h (Done next more, l) e = done_to cnt sig _ _ x.0 _ x.2 e h
-  line_ends j x h (Cut, l) e = tt
-  line_ends j x h (High m, l) e = tt
-  line_ends j x h (Long n, l) e = tt
+  line_ends : (j : ℕ) (x : Counting) → Before x → (y : LineCounts × List ℤ) → counting j x ≡ y → Kept Before (Ends (length cnt)) (counted x.1 y)
+  line_ends j x h (Ok k, l) e = done_to cnt sig _ _ x.0 _ x.2 e h
+  line_ends j x h (Err f, l) e = tt
 
   turn_ends : (j : ℕ) (x : Counting) → Before x → (b : Bool) → Kept Before (Ends (length cnt)) (cond b (counted x.1 (counting j x)) (go x))
   turn_ends j x h true = line_ends j x h (counting j x) refl
@@ -73,7 +69,7 @@ module _ (s : List ℕ) (c : Setting) (p : Precinct) (slot : ℕ) (cnt sig : Lis
 -- ---- the contents of a packet
 
 module _ (s : List ℕ) (c : Setting) (p : Precinct) (slot at : ℕ) (cells : List ℤ) where
-  abbrev counts : Counted × List ℤ
+  abbrev counts : LineCounts × List ℤ
   counts = counts_of s c p slot at cells
 
   -- each fits in what its subpacket declares
@@ -82,19 +78,17 @@ module _ (s : List ℕ) (c : Setting) (p : Precinct) (slot at : ℕ) (cells : Li
     pub nibbles : data_content (counts_of s c p slot at cells).0 ≤ (head s c p slot at).ldat
     pub signs : sign_content (values_after s c p slot at cells).0 ≤ Lsign s c p slot at
 
-  counts_fit : (x : Counted × List ℤ) → Ends (length (count_bytes s c p slot at)) x → count_content x.0 ≤ (head s c p slot at).lcnt
-  counts_fit (Done next need, l) h = omega (arith, h, length-take (head s c p slot at).lcnt (drop (cnt_at s c p slot at) s))
-  counts_fit (Cut, l) h = omega arith
-  counts_fit (High m, l) h = omega arith
-  counts_fit (Long n, l) h = omega arith
+  counts_fit : (x : LineCounts × List ℤ) → Ends (length (count_bytes s c p slot at)) x → count_content x.0 ≤ (head s c p slot at).lcnt
+  counts_fit (Ok k, l) h = omega (arith, h, length-take (head s c p slot at).lcnt (drop (cnt_at s c p slot at) s))
+  counts_fit (Err f, l) h = omega arith
 
   founded : Founded c.br counts.0
   founded = counts_founded s c p slot _ _ _ cells
 
-  by_counts : (x : Counted × List ℤ) → counts ≡ x → Founded c.br x.0 → (after_counts s c p slot at x).0 ≡ Fine → Fits
-  by_counts (Done next need, l) e k f =
+  by_counts : (x : LineCounts × List ℤ) → counts ≡ x → Founded c.br x.0 → (after_counts s c p slot at x).0 ≡ Fine → Fits
+  by_counts (Ok r, l) e k f =
       let w = values_fine s c p slot at _ l f in
-      let t = held (data_checks s c p slot at (Done next need)) w in
+      let t = held (data_checks s c p slot at (Ok r)) w in
       let read = (packet_values c p slot (data_bytes s c p slot at) (sign_bytes s c p slot at) l).0 in
       let judged : first (sign_checks s c p slot at read.sign) ≡ Fine = (λ i. (values_by s c p slot at (sym w i) l).0) ∙ f in
       record {
@@ -102,13 +96,13 @@ module _ (s : List ℕ) (c : Setting) (p : Precinct) (slot at : ℕ) (cells : Li
         nibbles = rw e t.1.0.least;
         signs = rw e (held (sign_checks s c p slot at read.sign) judged).0.least;
       }
-  by_counts (Cut, l) e k f = absurd (cut_refused s c p slot at l f)
-  by_counts (High m, l) e k f = absurd (high_refused s c p slot at m l k f)
-  by_counts (Long n, l) e k f = absurd (long_refused s c p slot at n l k f)
+  by_counts (Err Cut, l) e k f = absurd (cut_refused s c p slot at l f)
+  by_counts (Err (High m), l) e k f = absurd (high_refused s c p slot at m l k f)
+  by_counts (Err (Long n), l) e k f = absurd (long_refused s c p slot at n l k f)
 
   by_head : (v : Verdict) → (counts_by s c p slot at v cells).0 ≡ Fine → Fits
-  by_head Fine e = by_counts counts refl founded e
-  by_head (Refused k) e = clash e
+  by_head (Ok _) e = by_counts counts refl founded e
+  by_head (Err k) e = clash e
 
   pub packet_fits : (raws : List ℕ) → (packet s c p slot at raws cells).0 ≡ Fine → Fits
   unfolding packet
@@ -120,9 +114,9 @@ module _ (s : List ℕ) (c : Setting) (p : Precinct) (slot at : ℕ) (cells : Li
   packet_tiles raws e = let fits = packet_fits raws e in omega (arith, fits.counts, fits.nibbles, fits.signs)
 
   -- the nibbles of the data's content are those that the data's decoder reads
-  pub data_content_lem : Slotted c p slot → start c.shape c.shape.nc ≤ length cells → {next need : ℕ} → (counts_of s c p slot at cells).0 ≡ Done next need
+  pub data_content_lem : Slotted c p slot → start c.shape c.shape.nc ≤ length cells → {k : Counted} → (counts_of s c p slot at cells).0 ≡ Ok k
       → data_content (counts_of s c p slot at cells).0 ≡ ceil_div (values_after s c p slot at cells).0.at 2
-  data_content_lem slotted room {need = need} e = ap data_content e ∙ (λ i. ceil_div (sym (packet_need c p slot slotted s at cells room e) i) 2)
+  data_content_lem slotted room e = ap data_content e ∙ (λ i. ceil_div (sym (packet_need c p slot slotted s at cells room e) i) 2)
 
   -- ---- as the code has them
 
@@ -160,7 +154,7 @@ module _ (s : List ℕ) (c : Setting) (p : Precinct) (slot at : ℕ) (cells : Li
         joined k n g = omega arith
 
     -- what the decoders of an accepted packet's subpackets answer are its contents
-    module _ {x : Counted × List ℤ} {r : Content} {cells' : List ℤ} (e : counts_of s c p slot at cells ≡ x) (h : IsContent s c p slot at x r cells') where
+    module _ {x : LineCounts × List ℤ} {r : Content} {cells' : List ℤ} (e : counts_of s c p slot at cells ≡ x) (h : IsContent s c p slot at x r cells') where
       fine_after : r.verdict ≡ Fine → (after_counts s c p slot at x).0 ≡ Fine
       fine_after f = (λ i. (h.left i).0) ∙ f
 
@@ -188,8 +182,8 @@ module _ (s : List ℕ) (c : Setting) (p : Precinct) (slot at : ℕ) (cells : Li
         where
           same : (v : Verdict) → (v ≡ Fine → (r.counts ≡ count_content counts.0) × (r.«data» ≡ data_content counts.0) × (r.signs ≡ sign_content (values_after s c p slot at cells).0))
               → bytes_by v (part_bytes parts r.counts r.«data» r.signs) ≡ bytes_by v (bytes_of (packet_pieces s c p slot at cells))
-          same Fine h = let k = h refl in (λ i. part_bytes parts (k.0 i) (k.1 i) (k.2 i)) ∙ sym parts_bytes
-          same (Refused w) h = refl
+          same (Ok _) h = let k = h refl in (λ i. part_bytes parts (k.0 i) (k.1 i) (k.2 i)) ∙ sym parts_bytes
+          same (Err w) h = refl
 
   -- and a refused header leaves none
   pub passed_none : {v : Verdict} {k : Check} → v ≡ Refused k → IsPassed s c p slot at v cells (record { verdict = v; bytes = nothing }) cells

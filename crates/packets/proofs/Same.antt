@@ -1,4 +1,5 @@
 -- Cell locality of a line and of a packet: what it leaves depends on the count cells that it reads alone. Assumes nothing.
+use Rattle.std.specs.Prelude.{Ok, Err}
 use Prim.Native.Nat.{ℕ, zero, suc, ◌+◌, ◌*◌, ◌/◌, ◌%◌, ◌≤◌, ◌<◌}
 use mathlib.Core.Path.{◌≡◌, refl, subst, ◌∙◌}
 use mathlib.Core.Bool.{Bool, true, false, cond}
@@ -10,20 +11,16 @@ use Rattle.whole.specs.Cells.{Same}
 use Rattle.whole.proofs.Same.{same_set}
 use Rattle.loops.specs.Run.{go}
 use Rattle.loops.proofs.Follows.{Both, run_both}
-use Rattle.rows.specs.Rows.{first}
-use Rattle.rows.specs.declared.Verdict.{Verdict}
-use Rattle.rows.specs.declared.Verdict.TheVariants.{Fine, Refused}
+use Rattle.rows.specs.Rows.{first, Verdict}
 use Rattle.bits.specs.Groups.{Ng, Ncg, nibbles_of, packed, held_m, held_t}
 use Rattle.quantiser.specs.Inverse.{coefficient_of, scaled}
 use Rattle.layout.specs.Slots.{candidates}
 use Rattle.counts.specs.declared.group.Coding.{Coding}
 use Rattle.counts.specs.declared.group.Mode.{Mode}
 use Rattle.counts.specs.declared.group.Mode.TheVariants.{Raw, NoPrediction, Vertical}
-use Rattle.counts.specs.declared.group.Group.{Group}
-use Rattle.counts.specs.declared.group.Group.TheVariants.{Count, Cut as CutCode, High as HighCode, Long as LongCode}
+use Rattle.counts.specs.Groups.{Group}
 use Rattle.counts.specs.declared.Place.{Place}
-use Rattle.counts.specs.declared.Line.{Line as Counted}
-use Rattle.counts.specs.declared.Line.TheVariants.{Done, Cut, High, Long}
+use Rattle.counts.specs.Lines.{Line as LineCounts, end as counts_left}
 use Rattle.counts.specs.Groups.{unpack_vertical}
 use Rattle.counts.specs.Lines.{count_cell, insignificant, above_cell, above, unpack, State, Left, stored, turn, end, line_counts}
 use Rattle.values.specs.Group.{sign_bits_of, index}
@@ -54,10 +51,8 @@ module _ (P : ℕ → Type 0) (s sig : List ℕ) (k : Coding) (p : Place) (z : �
   unpack_same Vertical g i a b e = λ n. unpack_vertical s k (insignificant sig k z g) (held_m (e refl n)) (held_t (e refl n)) i
 
   stored_same : (to : ℕ) (x y : State) (u : Group) → SameState x y → Both SameState SameLeft (stored k to x u) (stored k to y u)
-  stored_same to x y (Count m next) h = (refl, (λ i. h.1 i + nibbles_of m k.t k.fs), same_set h.2 to (packed m k.t))
-  stored_same to x y CutCode h = (refl, h.2)
-  stored_same to x y (HighCode m) h = (refl, h.2)
-  stored_same to x y (LongCode n) h = (refl, h.2)
+  stored_same to x y (Ok r) h = (refl, (λ i. h.1 i + nibbles_of r.m k.t k.fs), same_set h.2 to (packed r.m k.t))
+  stored_same to x y (Err f) h = (refl, h.2)
 
   turn_same : (g : ℕ) (x y : State) → g < Ncg p.width → SameState x y → Both SameState SameLeft (turn s sig k p z g x) (turn s sig k p z g y)
   unfolding turn
@@ -70,7 +65,7 @@ module _ (P : ℕ → Type 0) (s sig : List ℕ) (k : Coding) (p : Place) (z : �
   pub line_counts_same : (i : ℕ) (a b : List ℤ) → Same P a b → SameLeft (line_counts s sig k p i z a) (line_counts s sig k p i z b)
   unfolding line_counts
   line_counts_same i a b same =
-      run_both SameState SameLeft (turn s sig k p z) (turn s sig k p z) end end (Ncg p.width) (λ x y h. ((λ n. Done (h.0 n) (h.1 n)), h.2)) turn_same
+      run_both SameState SameLeft (turn s sig k p z) (turn s sig k p z) end end (Ncg p.width) (λ x y h. ((λ n. Ok (record { next = h.0 n; need = h.1 n })), h.2)) turn_same
       (Ncg p.width) 0 (i, 0, a) (i, 0, b) (omega arith) (refl, refl, same)
 
 -- ---- the values of a line: they read its own counts
@@ -126,31 +121,29 @@ module _ {P : ℕ → Type 0} (s : List ℕ) (c : Setting) (p : Precinct) (slot 
   abbrev SameCounting : Counting → Counting → Type 0
   SameCounting x y = (x.0 ≡ y.0) × (x.1 ≡ y.1) × Same P x.2 y.2
 
-  counted_same : (n m : ℕ) (x y : Counted) (a b : List ℤ) → n ≡ m → x ≡ y → Same P a b → Both SameCounting (Results {A = Counted}) (counted n (x, a)) (counted m (y, b))
-  counted_same n m x y a b e f same = subst (λ (w : Counted). Both SameCounting (Results {A = Counted}) (counted n (x, a)) (counted m (w, b))) f (by x)
+  counted_same : (n m : ℕ) (x y : LineCounts) (a b : List ℤ) → n ≡ m → x ≡ y → Same P a b → Both SameCounting (Results {A = LineCounts}) (counted n (x, a)) (counted m (y, b))
+  counted_same n m x y a b e f same = subst (λ (w : LineCounts). Both SameCounting (Results {A = LineCounts}) (counted n (x, a)) (counted m (w, b))) f (by x)
     where
-      by : (x : Counted) → Both SameCounting (Results {A = Counted}) (counted n (x, a)) (counted m (x, b))
-      by (Done next more) = (refl, (λ i. e i + more), same)
-      by Cut = (refl, same)
-      by (High m) = (refl, same)
-      by (Long n) = (refl, same)
+      by : (x : LineCounts) → Both SameCounting (Results {A = LineCounts}) (counted n (x, a)) (counted m (x, b))
+      by (Ok k) = (refl, (λ i. e i + k.need), same)
+      by (Err f) = (refl, same)
 
   packet_counts_same : (cnt sig : List ℕ) (raw : Bool) (a b : List ℤ) → Same P a b → Results (packet_counts s c p slot cnt sig raw a) (packet_counts s c p slot cnt sig raw b)
   unfolding packet_counts count_turn
   packet_counts_same cnt sig raw a b same =
-      run_both SameCounting (Results {A = Counted}) (count_turn s c p slot cnt sig raw) (count_turn s c p slot cnt sig raw) (λ x. (Done x.0 x.1, x.2)) (λ x. (Done x.0 x.1, x.2))
-      (candidates c.shape slot) (λ x y h. ((λ n. Done (h.0 n) (h.1 n)), h.2)) (λ j x y l h. by j x y l h (line c p slot j).present refl) (candidates c.shape slot) 0 (0, 0, a) (0, 0, b)
+      run_both SameCounting (Results {A = LineCounts}) (count_turn s c p slot cnt sig raw) (count_turn s c p slot cnt sig raw) counts_left counts_left
+      (candidates c.shape slot) (λ x y h. ((λ n. Ok (record { next = h.0 n; need = h.1 n })), h.2)) (λ j x y l h. by j x y l h (line c p slot j).present refl) (candidates c.shape slot) 0 (0, 0, a) (0, 0, b)
       (omega arith) (refl, refl, same)
     where
-      here : ℕ → ℕ → List ℤ → Counted × List ℤ
+      here : ℕ → ℕ → List ℤ → LineCounts × List ℤ
       here j at cells = line_counts cnt sig (coding_of s c p raw (line c p slot j).band) (place_of (line c p slot j)) at (marks s c p slot raw j) cells
 
       by : (j : ℕ) (x y : Counting) → j < candidates c.shape slot → SameCounting x y → (e : Bool) → (line c p slot j).present ≡ e
-          → Both SameCounting (Results {A = Counted}) (cond e (counted x.1 (here j x.0 x.2)) (go x)) (cond e (counted y.1 (here j y.0 y.2)) (go y))
+          → Both SameCounting (Results {A = LineCounts}) (cond e (counted x.1 (here j x.0 x.2)) (go x)) (cond e (counted y.1 (here j y.0 y.2)) (go y))
       by j x y l h true e =
           let q = line_counts_same P cnt sig (coding_of s c p raw (line c p slot j).band) (place_of (line c p slot j)) (marks s c p slot raw j)
           (λ v g m. reach.over j l e (vertical_odd raw (D s c p (line c p slot j).band) v) g (omega arith)) x.0 x.2 y.2 h.2 in
-          subst (λ (n : ℕ). Both SameCounting (Results {A = Counted}) (counted x.1 (here j x.0 x.2)) (counted y.1 (here j n y.2))) h.0
+          subst (λ (n : ℕ). Both SameCounting (Results {A = LineCounts}) (counted x.1 (here j x.0 x.2)) (counted y.1 (here j n y.2))) h.0
           (counted_same x.1 y.1 (here j x.0 x.2).0 (here j x.0 y.2).0 (here j x.0 x.2).1 (here j x.0 y.2).1 h.1 q.0 q.1)
       by j x y l h false e = h
 
@@ -173,19 +166,19 @@ module _ {P : ℕ → Type 0} (s : List ℕ) (c : Setting) (p : Precinct) (slot 
 
   module _ (at : ℕ) where
     by_values : (v : Verdict) (a b : List ℤ) → Same P a b → Results (values_by s c p slot at v a) (values_by s c p slot at v b)
-    by_values Fine a b same =
+    by_values (Ok _) a b same =
         let q = packet_values_same (data_bytes s c p slot at) (sign_bytes s c p slot at) a b same in
         ((λ i. first (sign_checks s c p slot at (q.0 i).sign)), q.1)
-    by_values (Refused k) a b same = (refl, same)
+    by_values (Err k) a b same = (refl, same)
 
     by_counts : (v : Verdict) (a b : List ℤ) → Same P a b → Results (counts_by s c p slot at v a) (counts_by s c p slot at v b)
-    by_counts Fine a b same =
+    by_counts (Ok _) a b same =
         let q = packet_counts_same (count_bytes s c p slot at) (mark_bytes s c p slot at) (raw s c p slot at) a b same in
         let x = counts_of s c p slot at a in
         let y = counts_of s c p slot at b in
-        subst (λ (w : Counted). Results (after_counts s c p slot at x) (after_counts s c p slot at (w, y.1))) q.0
+        subst (λ (w : LineCounts). Results (after_counts s c p slot at x) (after_counts s c p slot at (w, y.1))) q.0
         (by_values (first (count_checks s c p slot at x.0 ++ data_checks s c p slot at x.0)) x.1 y.1 q.1)
-    by_counts (Refused k) a b same = (refl, same)
+    by_counts (Err k) a b same = (refl, same)
 
     -- a packet whose cells agree where its lines read leaves one verdict, accepted or refused, and cells that agree
     pub packet_same : (raws : List ℕ) (a b : List ℤ) → Same P a b → Results (packet s c p slot at raws a) (packet s c p slot at raws b)

@@ -1,4 +1,5 @@
 -- Where a packet is refused: nowhere past the stream in which its precinct ends. Assumes nothing.
+use Rattle.std.specs.Prelude.{Ok, Err}
 use mathlib.Core.Path.{◌≡◌, refl}
 use mathlib.Core.Bool.{Bool, true, false, cond}
 use mathlib.Core.List.{List, [], ◌∷◌, ◌++◌}
@@ -7,17 +8,15 @@ use native.Mathlib.Omega.{arith}
 use lib.IntN.{ℤ}
 use lib.ListN.{get_or}
 use lib.Pow.{pow_pos}
-use Rattle.rows.specs.Rows.{check, first, each}
+use Rattle.rows.specs.Rows.{check, first, each, Fine, Verdict}
 use Rattle.rows.specs.declared.Check.{Check}
 use Rattle.rows.specs.declared.Row.TheVariants.{Mode}
 use Rattle.rows.specs.declared.Field.TheVariants.{Dr}
-use Rattle.rows.specs.declared.Verdict.{Verdict}
-use Rattle.rows.specs.declared.Verdict.TheVariants.{Fine, Refused}
 use Rattle.rows.proofs.Tables.{held}
 use Rattle.rows.proofs.Sites.{Inside, Sited, sited, sited_append, sited_each}
 use Rattle.layout.specs.Slots.{sharing}
-use Rattle.counts.specs.declared.Line.{Line as Counted}
-use Rattle.counts.specs.declared.Line.TheVariants.{Done, Cut, High, Long}
+use Rattle.counts.specs.Lines.{Line as LineCounts}
+use Rattle.counts.specs.declared.group.Fault.TheVariants.{Cut, High, Long}
 use Rattle.counts.specs.Lines.{Founded}
 use Rattle.packets.specs.declared.Setting.{Setting}
 use Rattle.packets.specs.declared.Precinct.{Precinct}
@@ -53,31 +52,31 @@ module _ (s : List ℕ) (c : Setting) (p : Precinct) (slot at n : ℕ) (from : p
 
   -- the signs, which are judged where nothing is refused before them
   values_sited : (v : Verdict) (cells : List ℤ) → Inside n v → (v ≡ Fine → sgn_at s c p slot at ≤ n) → Inside n (values_by s c p slot at v cells).0
-  values_sited Fine cells i k = sited n (sign_checks s c p slot at _) (k refl, λ sgn. tt)
-  values_sited (Refused r) cells i k = i
+  values_sited (Ok _) cells i k = sited n (sign_checks s c p slot at _) (k refl, λ sgn. tt)
+  values_sited (Err r) cells i k = i
 
   -- behind the header, where the counts' stretch lies in the precinct
   module _ (h : dat_at s c p slot at ≤ p.end) where
-    counted_sited : (k : Counted) → Sited n (count_checks s c p slot at k ++ data_checks s c p slot at k)
-    counted_sited (Done next need) = (omega arith, λ dat. (omega arith, λ full. (omega arith, λ sgn. tt)))
-    counted_sited Cut = (omega arith, λ held. tt)
-    counted_sited (High m) = (omega arith, λ held. tt)
-    counted_sited (Long n) = (omega arith, λ held. tt)
+    counted_sited : (k : LineCounts) → Sited n (count_checks s c p slot at k ++ data_checks s c p slot at k)
+    counted_sited (Ok k) = (omega arith, λ dat. (omega arith, λ full. (omega arith, λ sgn. tt)))
+    counted_sited (Err Cut) = (omega arith, λ held. tt)
+    counted_sited (Err (High m)) = (omega arith, λ held. tt)
+    counted_sited (Err (Long n)) = (omega arith, λ held. tt)
 
-    signs_begin : (k : Counted) → Founded c.br k → first (count_checks s c p slot at k ++ data_checks s c p slot at k) ≡ Fine → sgn_at s c p slot at ≤ n
-    signs_begin (Done next need) f e = omega (arith, (held (data_checks s c p slot at (Done next need)) e).0.most)
-    signs_begin Cut f e = absurd (omega (arith, (held (count_checks s c p slot at Cut) e).0.least))
-    signs_begin (High m) f e = absurd (omega (arith, f, (held (count_checks s c p slot at (High m)) e).0.most))
-    signs_begin (Long n) f e = absurd (omega (arith, f, (held (count_checks s c p slot at (Long n)) e).0.most, pow_pos (c.br + 1)))
+    signs_begin : (k : LineCounts) → Founded c.br k → first (count_checks s c p slot at k ++ data_checks s c p slot at k) ≡ Fine → sgn_at s c p slot at ≤ n
+    signs_begin (Ok k) f e = omega (arith, (held (data_checks s c p slot at (Ok k)) e).0.most)
+    signs_begin (Err Cut) f e = absurd (omega (arith, (held (count_checks s c p slot at (Err Cut)) e).0.least))
+    signs_begin (Err (High m)) f e = absurd (omega (arith, f, (held (count_checks s c p slot at (Err (High m))) e).0.most))
+    signs_begin (Err (Long n)) f e = absurd (omega (arith, f, (held (count_checks s c p slot at (Err (Long n))) e).0.most, pow_pos (c.br + 1)))
 
-    after_sited : (x : Counted × List ℤ) → Founded c.br x.0 → Inside n (after_counts s c p slot at x).0
+    after_sited : (x : LineCounts × List ℤ) → Founded c.br x.0 → Inside n (after_counts s c p slot at x).0
     after_sited x f =
         let t = count_checks s c p slot at x.0 ++ data_checks s c p slot at x.0 in
         values_sited (first t) x.1 (sited n t (counted_sited x.0)) (signs_begin x.0 f)
 
   counts_sited : (v : Verdict) (cells : List ℤ) → Inside n v → (v ≡ Fine → dat_at s c p slot at ≤ p.end) → Inside n (counts_by s c p slot at v cells).0
-  counts_sited Fine cells i h = after_sited (h refl) (counts_of s c p slot at cells) (counts_founded s c p slot _ _ _ cells)
-  counts_sited (Refused r) cells i h = i
+  counts_sited (Ok _) cells i h = after_sited (h refl) (counts_of s c p slot at cells) (counts_founded s c p slot _ _ _ cells)
+  counts_sited (Err r) cells i h = i
 
   -- a packet that begins in its precinct
   pub packet_sited : (raws : List ℕ) (cells : List ℤ) → at ≤ p.end → Inside n (packet s c p slot at raws cells).0

@@ -1,4 +1,6 @@
 -- The subpackets' stretches and the tables of checks, as the code has them. Assumes nothing.
+use Rattle.counts.specs.declared.Counted.{Counted}
+use Rattle.std.specs.Prelude.{Ok, Err}
 use mathlib.Core.Path.{◌≡◌, refl, sym, ap, subst, ◌∙◌}
 use mathlib.Core.Bool.{Bool, true, false, cond, ◌||◌}
 use mathlib.Core.List.{List, [], ◌∷◌, ◌++◌}
@@ -9,9 +11,7 @@ use lib.Dec.{eqb, ltb}
 use lib.IntN.{ℤ}
 use lib.Pow.{pow_pos}
 use Rattle.whole.specs.Numbers.{ceil_div}
-use Rattle.rows.specs.Rows.{check, ample, first, then, broken}
-use Rattle.rows.specs.declared.Verdict.{Verdict}
-use Rattle.rows.specs.declared.Verdict.TheVariants.{Fine, Refused}
+use Rattle.rows.specs.Rows.{check, ample, first, then, broken, Fine, Refused, Verdict}
 use Rattle.rows.specs.declared.Row.TheVariants.{Length, Count, Mode}
 use Rattle.rows.specs.declared.Field.TheVariants.{Packet, Dr, Significance, Counts, M, Ones, Data, Signs}
 use Rattle.rows.specs.declared.Check.{Check}
@@ -19,8 +19,8 @@ use Rattle.rows.proofs.Tables.{held, append_fine, first_append}
 use Rattle.bits.specs.Packet.{header_bytes}
 use Rattle.bits.specs.declared.packet.PacketHeader.{PacketHeader}
 use Rattle.layout.specs.Slots.{candidates}
-use Rattle.counts.specs.declared.Line.{Line as Counted}
-use Rattle.counts.specs.declared.Line.TheVariants.{Done, Cut, High, Long}
+use Rattle.counts.specs.Lines.{Line as LineCounts}
+use Rattle.counts.specs.declared.group.Fault.TheVariants.{Cut, High, Long}
 use Rattle.counts.specs.Lines.{Founded}
 use Rattle.values.specs.declared.Next.{Next}
 use Rattle.packets.specs.declared.Setting.{Setting}
@@ -151,7 +151,7 @@ module _ (s : List ℕ) (c : Setting) (p : Precinct) (slot at : ℕ) where
 
     -- ---- the counts
 
-    pub counts_are : (cells : List ℤ) {y : Counted × List ℤ}
+    pub counts_are : (cells : List ℤ) {y : LineCounts × List ℤ}
         → packet_counts s c p slot (stretch s parts.cnt (parts.dat - parts.cnt)) (stretch s parts.sig (parts.cnt - parts.sig)) parts.raw cells ≡ y
         → counts_of s c p slot at cells ≡ y
     counts_are cells f =
@@ -159,7 +159,7 @@ module _ (s : List ℕ) (c : Setting) (p : Precinct) (slot at : ℕ) where
 
     -- ---- behind the counts
 
-    pub done_table : {line : Counted} {next need bytes : ℕ} {v : Verdict} → line ≡ Done next need → bytes ≡ ceil_div need 2 → v ≡ first (data_row p parts bytes)
+    pub done_table : {line : LineCounts} {k : Counted} {bytes : ℕ} {v : Verdict} → line ≡ Ok k → bytes ≡ ceil_div k.need 2 → v ≡ first (data_row p parts bytes)
         → v ≡ first (count_checks s c p slot at line ++ data_checks s c p slot at line)
     done_table e b f =
         let rest = ap (λ (n : ℕ). p.end - n) is.sgn in
@@ -170,10 +170,10 @@ module _ (s : List ℕ) (c : Setting) (p : Precinct) (slot at : ℕ) where
         ∷ []))
         ∙ (λ i. first (count_checks s c p slot at (sym e i) ++ data_checks s c p slot at (sym e i)))
 
-    pub done_inside : {line : Counted} {next need : ℕ} {v : Verdict} → line ≡ Done next need → v ≡ first (count_checks s c p slot at line ++ data_checks s c p slot at line)
+    pub done_inside : {line : LineCounts} {k : Counted} {v : Verdict} → line ≡ Ok k → v ≡ first (count_checks s c p slot at line ++ data_checks s c p slot at line)
         → parts.dat ≤ p.end → v ≡ Fine → parts.past ≤ p.end
-    done_inside {next = next} {need = need} e f h g =
-        let t = held (data_checks s c p slot at (Done next need)) ((λ i. first (count_checks s c p slot at (sym e i) ++ data_checks s c p slot at (sym e i))) ∙ sym f ∙ g) in
+    done_inside {k = k} e f h g =
+        let t = held (data_checks s c p slot at (Ok k)) ((λ i. first (count_checks s c p slot at (sym e i) ++ data_checks s c p slot at (sym e i))) ∙ sym f ∙ g) in
         omega (arith, t.0.most, t.1.1.0.most, is.dat, is.sgn, is.past)
 
     -- ---- the values
@@ -208,8 +208,8 @@ module _ (s : List ℕ) (c : Setting) (p : Precinct) (slot at : ℕ) where
   -- ---- the contents
 
   -- of counts that are done
-  pub done_content : {line : Counted} {next need k n : ℕ} {v : Verdict} {cells : List ℤ} {r : Signed} {cells' : List ℤ} → line ≡ Done next need
-      → v ≡ first (count_checks s c p slot at line ++ data_checks s c p slot at line) → k ≡ ceil_div next 8 → n ≡ ceil_div need 2 → IsSigned s c p slot at v cells r cells'
+  pub done_content : {line : LineCounts} {read : Counted} {k n : ℕ} {v : Verdict} {cells : List ℤ} {r : Signed} {cells' : List ℤ} → line ≡ Ok read
+      → v ≡ first (count_checks s c p slot at line ++ data_checks s c p slot at line) → k ≡ ceil_div read.next 8 → n ≡ ceil_div read.need 2 → IsSigned s c p slot at v cells r cells'
       → IsContent s c p slot at (line, cells) (record { verdict = r.verdict; counts = k; «data» = n; signs = r.signs }) cells'
   done_content {cells = cells} e f k n h =
       record {
@@ -220,8 +220,8 @@ module _ (s : List ℕ) (c : Setting) (p : Precinct) (slot at : ℕ) where
       }
 
   -- and of counts that are refused: none
-  module _ {parts : Parts} (is : IsParts s c p slot at parts) {line : Counted} {cells : List ℤ} {r : Content} (none : (r.counts ≡ 0) × (r.«data» ≡ 0) × (r.signs ≡ 0)) where
-    unread : {x : Counted} {k : Check} → line ≡ x → count_content x ≡ 0 → data_content x ≡ 0 → first (count_checks s c p slot at x ++ data_checks s c p slot at x) ≡ Refused k
+  module _ {parts : Parts} (is : IsParts s c p slot at parts) {line : LineCounts} {cells : List ℤ} {r : Content} (none : (r.counts ≡ 0) × (r.«data» ≡ 0) × (r.signs ≡ 0)) where
+    unread : {x : LineCounts} {k : Check} → line ≡ x → count_content x ≡ 0 → data_content x ≡ 0 → first (count_checks s c p slot at x ++ data_checks s c p slot at x) ≡ Refused k
         → r.verdict ≡ Refused k → IsContent s c p slot at (line, cells) r cells
     unread e n d f g =
         let refused = (λ i. first (count_checks s c p slot at (e i) ++ data_checks s c p slot at (e i))) ∙ f in
@@ -232,20 +232,20 @@ module _ (s : List ℕ) (c : Setting) (p : Precinct) (slot at : ℕ) where
           signs = none.2 ∙ rw refused refl;
         }
 
-    pub cut_content : line ≡ Cut → r.verdict ≡ first (check Length parts.cnt Counts (parts.dat - parts.cnt) (parts.dat - parts.cnt + 1) ample ∷ [])
+    pub cut_content : line ≡ Err Cut → r.verdict ≡ first (check Length parts.cnt Counts (parts.dat - parts.cnt) (parts.dat - parts.cnt + 1) ample ∷ [])
         → IsContent s c p slot at (line, cells) r cells
     cut_content e f =
         let n = (head s c p slot at).lcnt in
         let refused = too_small (check Length (cnt_at s c p slot at) Counts n (n + 1) ample) (omega arith) in
         unread e refl refl refused (f ∙ (λ i. first (check Length (is.cnt i) Counts (long_cnt is i) (long_cnt is i + 1) ample ∷ [])) ∙ refused)
 
-    pub high_content : {m : ℕ} → line ≡ High m → Founded c.br line → r.verdict ≡ first (check Count parts.cnt M m 0 31 ∷ [])
+    pub high_content : {m : ℕ} → line ≡ Err (High m) → Founded c.br line → r.verdict ≡ first (check Count parts.cnt M m 0 31 ∷ [])
         → IsContent s c p slot at (line, cells) r cells
     high_content {m} e h f =
         let refused = too_large (check Count (cnt_at s c p slot at) M m 0 31) (subst (Founded c.br) e h) in
         unread e refl refl refused (f ∙ (λ i. first (check Count (is.cnt i) M m 0 31 ∷ [])) ∙ refused)
 
-    pub long_content : {n : ℕ} → line ≡ Long n → Founded c.br line → r.verdict ≡ first (check Count parts.cnt Ones n 0 (2 ^ (c.br + 1) - 1) ∷ [])
+    pub long_content : {n : ℕ} → line ≡ Err (Long n) → Founded c.br line → r.verdict ≡ first (check Count parts.cnt Ones n 0 (2 ^ (c.br + 1) - 1) ∷ [])
         → IsContent s c p slot at (line, cells) r cells
     long_content {n} e h f =
         let most : 2 ^ (c.br + 1) ≤ n = subst (Founded c.br) e h in

@@ -1,12 +1,11 @@
 -- The verdict of a packet is that of one table. Assumes nothing.
+use Rattle.std.specs.Prelude.{Ok, Err}
 use Prim.Native.Nat.{ℕ}
 use mathlib.Core.List.{List, ◌++◌, append_assoc}
 use mathlib.Core.Path.{◌≡◌, refl, ap, ◌∙◌}
 use lib.IntN.{ℤ}
-use Rattle.rows.specs.Rows.{first, then}
+use Rattle.rows.specs.Rows.{first, then, Verdict}
 use Rattle.rows.specs.declared.Check.{Check}
-use Rattle.rows.specs.declared.Verdict.{Verdict}
-use Rattle.rows.specs.declared.Verdict.TheVariants.{Fine, Refused}
 use Rattle.rows.proofs.Tables.{joined}
 use Rattle.packets.specs.declared.Setting.{Setting}
 use Rattle.packets.specs.declared.Precinct.{Precinct}
@@ -22,12 +21,12 @@ module _ (s : List ℕ) (c : Setting) (p : Precinct) (slot at : ℕ) (raws : Lis
   signs = sign_checks s c p slot at (values_after s c p slot at cells).0.sign
 
   by_values : (v : Verdict) → (values_by s c p slot at v (counts_of s c p slot at cells).1).0 ≡ then v (first signs)
-  by_values Fine = refl
-  by_values (Refused k) = refl
+  by_values (Ok _) = refl
+  by_values (Err k) = refl
 
   by_counts : (v : Verdict) → (counts_by s c p slot at v cells).0 ≡ then v (first (middle ++ signs))
-  by_counts Fine = joined middle signs (by_values (first middle)) refl refl
-  by_counts (Refused k) = refl
+  by_counts (Ok _) = joined middle signs (by_values (first middle)) refl refl
+  by_counts (Err k) = refl
 
   pub packet_table : (packet s c p slot at raws cells).0 ≡ first (packet_checks s c p slot at raws cells)
   unfolding packet packet_checks

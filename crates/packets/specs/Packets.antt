@@ -1,18 +1,16 @@
 -- C.3 and C.4: a packet, its header and its subpackets in their order. Each subpacket is judged whole before the next: does it run past the precinct,
 -- then its content. `slot` says which of its precinct's packets it is, `at` where its header stands.
-use Rattle.std.specs.Prelude.{ℕ, zero, suc, ◌+◌, ◌-◌, ◌^◌, Bool, false, cond, ◌||◌, List, [], ◌∷◌, ◌++◌, eqb, ℤ, get_or}
+use Rattle.std.specs.Prelude.{ℕ, zero, suc, ◌+◌, ◌-◌, ◌^◌, Bool, false, cond, ◌||◌, List, [], ◌∷◌, ◌++◌, eqb, ℤ, get_or, Ok, Err}
 use Rattle.whole.specs.Numbers.{ceil_div}
-use Rattle.rows.specs.Rows.{check, ample, first, each}
+use Rattle.rows.specs.Rows.{check, ample, first, each, Refused, Verdict}
 use Rattle.rows.specs.declared.Check.{Check}
-use Rattle.rows.specs.declared.Verdict.{Verdict}
-use Rattle.rows.specs.declared.Verdict.TheVariants.{Fine, Refused}
 use Rattle.rows.specs.declared.Row.TheVariants.{Length, Count, Mode}
 use Rattle.rows.specs.declared.Field.TheVariants.{Packet, Dr, Significance, Counts, M, Ones, Data, Signs}
 use Rattle.bits.specs.Packet.{header_at, header_bytes}
 use Rattle.bits.specs.declared.packet.PacketHeader.{PacketHeader}
 use Rattle.layout.specs.Slots.{candidates, sharing}
-use Rattle.counts.specs.declared.Line.{Line as Counted}
-use Rattle.counts.specs.declared.Line.TheVariants.{Done, Cut, High, Long}
+use Rattle.counts.specs.Lines.{Line as LineCounts}
+use Rattle.counts.specs.declared.group.Fault.TheVariants.{Cut, High, Long}
 use Rattle.values.specs.declared.Next.{Next}
 use Rattle.packets.specs.declared.Setting.{Setting}
 use Rattle.packets.specs.declared.Precinct.{Precinct}
@@ -89,22 +87,20 @@ module _ (s : List ℕ) (c : Setting) (p : Precinct) (slot at : ℕ) where
       ∷ []))
 
   -- the counts: a code that is cut wants more bytes than are declared. M is 0 to 31, and a code has fewer than 2^(Br+1) 1-bits
-  abbrev pub count_checks : Counted → List Check
-  count_checks (Done next need) = []
-  count_checks Cut = check Length cnt_at Counts head.lcnt (head.lcnt + 1) ample ∷ []
-  count_checks (High m) = check Count cnt_at M m 0 31 ∷ []
-  count_checks (Long n) = check Count cnt_at Ones n 0 (2 ^ (c.br + 1) - 1) ∷ []
+  abbrev pub count_checks : LineCounts → List Check
+  count_checks (Ok k) = []
+  count_checks (Err Cut) = check Length cnt_at Counts head.lcnt (head.lcnt + 1) ample ∷ []
+  count_checks (Err (High m)) = check Count cnt_at M m 0 31 ∷ []
+  count_checks (Err (Long n)) = check Count cnt_at Ones n 0 (2 ^ (c.br + 1) - 1) ∷ []
 
   -- the data, of `need` nibbles, and the signs' length
-  abbrev pub data_checks : Counted → List Check
-  data_checks (Done next need) =
+  abbrev pub data_checks : LineCounts → List Check
+  data_checks (Ok k) =
       check Length dat_at Data head.ldat 0 (p.end - dat_at)
-      ∷ check Length dat_at Data head.ldat (ceil_div need 2) ample
+      ∷ check Length dat_at Data head.ldat (ceil_div k.need 2) ample
       ∷ check Length sgn_at Signs Lsign 0 (p.end - sgn_at)
       ∷ []
-  data_checks Cut = []
-  data_checks (High m) = []
-  data_checks (Long n) = []
+  data_checks (Err f) = []
 
   -- the signs, of `used` bits
   abbrev pub sign_checks : ℕ → List Check
@@ -118,19 +114,19 @@ module _ (s : List ℕ) (c : Setting) (p : Precinct) (slot at : ℕ) where
   after_values x = (first (sign_checks x.0.sign), x.1)
 
   abbrev pub values_by : Verdict → List ℤ → Left
-  values_by Fine cells = after_values (packet_values c p slot data_bytes sign_bytes cells)
-  values_by (Refused k) cells = (Refused k, cells)
+  values_by (Ok _) cells = after_values (packet_values c p slot data_bytes sign_bytes cells)
+  values_by (Err k) cells = (Refused k, cells)
 
-  abbrev pub after_counts : Counted × List ℤ → Left
+  abbrev pub after_counts : LineCounts × List ℤ → Left
   after_counts x = values_by (first (count_checks x.0 ++ data_checks x.0)) x.1
 
   -- the counts, from their own stretch and that of the significance flags
-  abbrev pub counts_of : List ℤ → Counted × List ℤ
+  abbrev pub counts_of : List ℤ → LineCounts × List ℤ
   counts_of cells = packet_counts s c p slot count_bytes mark_bytes raw cells
 
   abbrev pub counts_by : Verdict → List ℤ → Left
-  counts_by Fine cells = after_counts (counts_of cells)
-  counts_by (Refused k) cells = (Refused k, cells)
+  counts_by (Ok _) cells = after_counts (counts_of cells)
+  counts_by (Err k) cells = (Refused k, cells)
 
   unfoldable pub packet : List ℕ → List ℤ → Left
   packet raws cells = counts_by (first (head_checks raws)) cells

@@ -1,6 +1,6 @@
 -- The passes over the lines of a packet (Tables C.6, C.8, C.9 and C.10). Line j is candidate j of the packet's slot; one that the precinct does not have
 -- is passed over.
-use Rattle.std.specs.Prelude.{ℕ, zero, suc, ◌+◌, ◌/◌, ◌%◌, Bool, not, cond, ◌&&◌, List, eqb, ℤ}
+use Rattle.std.specs.Prelude.{ℕ, zero, suc, ◌+◌, ◌/◌, ◌%◌, Bool, not, cond, ◌&&◌, List, eqb, ℤ, Ok, Err}
 use Rattle.loops.specs.Run.{Turn, go, stop, run}
 use Rattle.layout.specs.Slots.{line_at, candidates}
 use Rattle.layout.specs.declared.Line.{Line}
@@ -8,9 +8,7 @@ use Rattle.counts.specs.declared.group.Coding.{Coding}
 use Rattle.counts.specs.declared.group.Mode.{Mode}
 use Rattle.counts.specs.declared.group.Mode.TheVariants.{Raw, NoPrediction, Vertical}
 use Rattle.counts.specs.declared.Place.{Place}
-use Rattle.counts.specs.declared.Line.{Line as Counted}
-use Rattle.counts.specs.declared.Line.TheVariants.{Done, Cut, High, Long}
-use Rattle.counts.specs.Lines.{line_counts}
+use Rattle.counts.specs.Lines.{Line as LineCounts, line_counts, end as counts_left}
 use Rattle.values.specs.declared.Line.{Line as Valued}
 use Rattle.values.specs.declared.Coding.{Coding as Values}
 use Rattle.values.specs.declared.Next.{Next}
@@ -60,23 +58,21 @@ place_of l = record { first = l.cell; stride = l.stride; width = l.width; area =
 abbrev pub Counting : Type 0
 Counting = ℕ × ℕ × List ℤ
 
-abbrev pub counted : ℕ → Counted × List ℤ → Turn Counting (Counted × List ℤ)
-counted need (Done next more, cells) = go (next, need + more, cells)
-counted need (Cut, cells) = stop (Cut, cells)
-counted need (High m, cells) = stop (High m, cells)
-counted need (Long n, cells) = stop (Long n, cells)
+abbrev pub counted : ℕ → LineCounts × List ℤ → Turn Counting (LineCounts × List ℤ)
+counted need (Ok k, cells) = go (k.next, need + k.need, cells)
+counted need (Err f, cells) = stop (Err f, cells)
 
 -- the stretch of the counts and that of the significance flags
 module _ (s : List ℕ) (c : Setting) (p : Precinct) (slot : ℕ) (cnt sig : List ℕ) (raw : Bool) where
-  unfoldable pub count_turn : ℕ → Counting → Turn Counting (Counted × List ℤ)
+  unfoldable pub count_turn : ℕ → Counting → Turn Counting (LineCounts × List ℤ)
   count_turn j x =
       cond (line c p slot j).present
       (counted x.1 (line_counts cnt sig (coding_of s c p raw (line c p slot j).band) (place_of (line c p slot j)) x.0 (marks s c p slot raw j) x.2))
       (go x)
 
   -- all lines of the packet
-  unfoldable pub packet_counts : List ℤ → Counted × List ℤ
-  packet_counts cells = run count_turn (λ x. (Done x.0 x.1, x.2)) (candidates c.shape slot) 0 (0, 0, cells)
+  unfoldable pub packet_counts : List ℤ → LineCounts × List ℤ
+  packet_counts cells = run count_turn counts_left (candidates c.shape slot) 0 (0, 0, cells)
 
 -- ---- Tables C.9 and C.10, with Annex D
 

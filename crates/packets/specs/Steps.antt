@@ -1,11 +1,9 @@
 -- What the steps of a packet ask and answer.
-use Rattle.std.specs.Prelude.{ℕ, ◌+◌, ◌*◌, ◌-◌, ◌^◌, ◌≤◌, ◌<◌, ◌≡◌, Bool, true, not, cond, ◌&&◌, List, [], ◌∷◌, ◌++◌, ℤ, length, get_or, leb}
-use Rattle.rows.specs.Rows.{check, ample, first}
+use Rattle.std.specs.Prelude.{ℕ, ◌+◌, ◌*◌, ◌-◌, ◌^◌, ◌≤◌, ◌<◌, ◌≡◌, Bool, true, not, cond, ◌&&◌, List, [], ◌∷◌, ◌++◌, ℤ, length, get_or, leb, Ok, Err}
+use Rattle.rows.specs.Rows.{check, ample, first, Fine, Verdict}
 use Rattle.rows.specs.declared.Check.{Check}
 use Rattle.rows.specs.declared.Row.TheVariants.{Length}
 use Rattle.rows.specs.declared.Field.TheVariants.{Data, Signs}
-use Rattle.rows.specs.declared.Verdict.{Verdict}
-use Rattle.rows.specs.declared.Verdict.TheVariants.{Fine, Refused}
 use Rattle.pieces.specs.declared.Bytes.{Bytes}
 use Rattle.pieces.specs.Pieces.{bytes_of, bytes_by}
 use Rattle.layout.specs.declared.Shape.{Shape}
@@ -13,8 +11,7 @@ use Rattle.layout.specs.declared.Line.{Line}
 use Rattle.layout.specs.Bands.{NL, band_exists}
 use Rattle.layout.specs.Cells.{start}
 use Rattle.layout.specs.Slots.{candidates}
-use Rattle.counts.specs.declared.Line.{Line as Counted}
-use Rattle.counts.specs.declared.Line.TheVariants.{Done}
+use Rattle.counts.specs.Lines.{Line as LineCounts}
 use Rattle.counts.specs.Lines.{line_counts}
 use Rattle.values.specs.declared.Next.{Next}
 use Rattle.values.specs.Line.{line_values}
@@ -131,16 +128,16 @@ abbrev pub bound_flag : Setting → ℕ → List ℕ → ℕ → ℕ
 bound_flag c slot raws free = cond (not c.rl && leb first_bound slot) (get_or raws (slot - 3) 0) free
 
 -- a candidate's counts, and its values: nothing where it is not there
-abbrev pub count_line : List ℕ → Setting → Precinct → List ℕ → List ℕ → Bool → Line → ℕ → ℕ → List ℤ → Counted × List ℤ
-count_line s c p cnt sig raw l at z cells = cond l.present (line_counts cnt sig (coding_of s c p raw l.band) (place_of l) at z cells) (Done at 0, cells)
+abbrev pub count_line : List ℕ → Setting → Precinct → List ℕ → List ℕ → Bool → Line → ℕ → ℕ → List ℤ → LineCounts × List ℤ
+count_line s c p cnt sig raw l at z cells = cond l.present (line_counts cnt sig (coding_of s c p raw l.band) (place_of l) at z cells) (Ok (record { next = at; need = 0 }), cells)
 
 abbrev pub value_line : Setting → Precinct → List ℕ → List ℕ → Line → Next → List ℤ → Next × List ℤ
 value_line c p dat sgn l from cells = cond l.present (line_values dat sgn (values_of c) (valued c p l) from cells) (from, cells)
 
 -- the content of a subpacket, by the verdict of what stands before it: none where the decoder does not come to it
 abbrev pub reached : Verdict → ℕ → ℕ
-reached Fine content = content
-reached (Refused k) content = 0
+reached (Ok _) content = content
+reached (Err k) content = 0
 
 module _ (s : List ℕ) (c : Setting) (p : Precinct) (slot at : ℕ) where
   pub record IsParts (r : Parts) : Type 0 where
@@ -166,7 +163,7 @@ module _ (s : List ℕ) (c : Setting) (p : Precinct) (slot at : ℕ) where
     pub signs : r.signs ≡ reached v (sign_content (packet_values c p slot (data_bytes s c p slot at) (sign_bytes s c p slot at) cells).0)
 
   -- what follows the counts
-  pub record IsContent (x : Counted × List ℤ) (r : Content) (cells' : List ℤ) : Type 0 where
+  pub record IsContent (x : LineCounts × List ℤ) (r : Content) (cells' : List ℤ) : Type 0 where
     pub left : after_counts s c p slot at x ≡ (r.verdict, cells')
     pub counts : r.counts ≡ count_content x.0
     pub «data» : r.«data» ≡ data_content x.0

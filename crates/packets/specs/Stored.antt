@@ -1,10 +1,9 @@
 -- What a packet stores, by name: M[p,λ,b,g] of each code group of its lines (Table C.8), and the index of each coefficient (Tables C.9 and C.10). `at` is where
 -- the packet's header stands, `cells` what the packets before it leave: the vertical predictors stand there.
-use Rattle.std.specs.Prelude.{ℕ, zero, suc, ◌/◌, ◌%◌, cond, List, ℤ}
+use Rattle.std.specs.Prelude.{ℕ, zero, suc, ◌/◌, ◌%◌, cond, List, ℤ, Ok, Err}
 use Rattle.bits.specs.Groups.{Ng}
 use Rattle.counts.specs.Lines.{unpack}
-use Rattle.counts.specs.declared.group.Group.{Group}
-use Rattle.counts.specs.declared.group.Group.TheVariants.{Count, Cut, High, Long}
+use Rattle.counts.specs.Groups.{Group}
 use Rattle.values.specs.declared.Next.{Next}
 use Rattle.values.specs.Group.{index}
 use Rattle.values.specs.Line.{behind}
@@ -17,10 +16,8 @@ use Rattle.packets.specs.Counted.{coding_in, before_group}
 
 -- M of a code group that is read. One that is refused has none
 abbrev pub group_m : Group → ℕ
-group_m (Count m next) = m
-group_m Cut = 0
-group_m (High m) = 0
-group_m (Long n) = 0
+group_m (Ok k) = k.m
+group_m (Err f) = 0
 
 module _ (s : List ℕ) (c : Setting) (p : Precinct) (slot at : ℕ) (cells : List ℤ) where
   -- Table C.8: M[p,λ,b,g] of group g of line j, as it is read in its turn

@@ -4,12 +4,11 @@
 pub mod bands;
 pub mod passes;
 
-ghost use Rattle.std.specs.Prelude.{◌≡◌, true, [], ◌∷◌, ◌+◌, ◌-◌, ◌^◌, ◌≤◌, ◌<◌, length};
+ghost use Rattle.std.specs.Prelude.{◌≡◌, true, cond, [], ◌∷◌, ◌+◌, ◌-◌, ◌^◌, ◌≤◌, ◌<◌, length};
 ghost use Rattle.whole.specs.Numbers.{ceil_div};
-ghost use Rattle.rows.specs.Rows.{check, first};
+ghost use Rattle.rows.specs.Rows.{check, first, Fine};
 ghost use Rattle.rows.specs.declared.Row.TheVariants.{Count};
 ghost use Rattle.rows.specs.declared.Field.TheVariants.{Ones};
-ghost use Rattle.rows.specs.declared.Verdict.TheVariants.{Fine};
 ghost use Rattle.bits.specs.Packet.{IsHeader};
 ghost use Rattle.layout.specs.Slots.{slots, candidates};
 ghost use Rattle.counts.specs.Lines.{Founded};
@@ -32,9 +31,11 @@ ghost use Rattle.packets.specs.Steps.{
 };
 
 use bits::packet::{PacketHeader, Widths};
+use counts::Counted;
+use counts::group::Fault;
 use layout::Shape;
 use pieces::{Bytes, NOTHING};
-use rows::{AMPLE, Check, Field, HOLDS, Row, Verdict};
+use rows::{AMPLE, Check, Field, Row, Verdict};
 
 // What Annex C needs of the headers: Annex B's shape, the widths of a packet header, Br, Fq, whether Qpih selects the uniform quantiser, whether Fs, Rm
 // and Rl are 1, and gain and priority of each band. The rest follows from the shape and is worked out once for a page, since every line asks for it: the first
@@ -118,24 +119,18 @@ pub struct Outcome {
     pub bytes: Bytes,
 }
 
-// a − b, or 0.
-fn less(a: usize, b: usize) -> usize
-    ensures { result ≡ a - b }
-{
-    if b < a { a - b } else { 0 }
-}
-
-// Sums that could wrap stay out of the two roundings up.
+// The bytes that so many bits take.
 fn bytes_of_bits(n: usize) -> usize
     ensures { result ≡ ceil_div n 8 }
 {
-    n / 8 + (n % 8 + 7) / 8
+    n.div_ceil(8)
 }
 
+// And so many nibbles.
 fn bytes_of_nibbles(n: usize) -> usize
     ensures { result ≡ ceil_div n 2 }
 {
-    n / 2 + n % 2
+    n.div_ceil(2)
 }
 
 // The raw flag of the packet before that shares bands with this one, where there is one and Rl = 0.
@@ -152,7 +147,14 @@ fn bound_flag(c: Setting, slot: usize, raws: [usize; 10], free: usize) -> usize
     raws[slot - 3]
 }
 
-// The places, by the lengths that the header declares. With Fs = 0 its sign length is ignored (Table C.4).
+// The length of the signs: with Fs = 0 the header's is ignored (Table C.4).
+fn sign_length(fs: bool, lsgn: usize) -> usize
+    ensures { result ≡ cond fs lsgn 0 }
+{
+    if fs { lsgn } else { 0 }
+}
+
+// The places, by the lengths that the header declares.
 fn parts_of(s: &[u8], c: Setting, p: Precinct, slot: usize, at: usize, h: PacketHeader) -> Parts
     requires { Within s.now c p slot × (at ≤ p.end) × IsHeader s.now at c.widths h }
     ensures { IsParts s.now c p slot at result }
@@ -170,7 +172,7 @@ fn parts_of(s: &[u8], c: Setting, p: Precinct, slot: usize, at: usize, h: Packet
         cnt: cnt,
         dat: dat,
         sgn: sgn,
-        past: sgn + rows::choose(c.fs, h.lsgn, 0),
+        past: sgn + sign_length(c.fs, h.lsgn),
     }
 }
 
@@ -188,17 +190,13 @@ fn open(s: &[u8], c: Setting, p: Precinct, slot: usize, at: usize, raws: [usize;
     let end = p.end;
     let sig = parts.sig;
     let cnt = parts.cnt;
-    let left = less(end, sig);
-    let rest = less(end, cnt);
-    let v = rows::first([
+    let left = end.saturating_sub(sig);
+    let rest = end.saturating_sub(cnt);
+    let v = rows::first(&[
         Check(Row::Length, p.at, Field::Packet, bytes, 0, end - at),
         Check(Row::Mode, at, Field::Dr, h.dr, least, most),
         Check(Row::Length, sig, Field::Significance, cnt - sig, 0, left),
         Check(Row::Length, cnt, Field::Counts, h.lcnt, 0, rest),
-        HOLDS,
-        HOLDS,
-        HOLDS,
-        HOLDS,
     ]);
     Opened {
         verdict: v,
@@ -220,7 +218,7 @@ fn values(s: &[u8], cells: &mut [i64], c: Setting, p: Precinct, slot: usize, par
     let next = passes::packet_values(dat, sgn, cells, c, p, slot);
     let used = bytes_of_bits(next.sign);
     Signed {
-        verdict: rows::one(Check(Row::Length, b, Field::Signs, e - b, used, AMPLE)),
+        verdict: rows::first(&[Check(Row::Length, b, Field::Signs, e - b, used, AMPLE)]),
         signs: used,
     }
 }
@@ -238,8 +236,8 @@ fn values_by(
     ensures { IsSigned s.now c p slot parts.at v cells.old result cells.new }
 {
     match v {
-        Verdict::Fine => values(s, cells, c, p, slot, parts),
-        Verdict::Refused(_) => Signed {
+        Ok(()) => values(s, cells, c, p, slot, parts),
+        Err(_) => Signed {
             verdict: v,
             signs: 0,
         },
@@ -254,17 +252,12 @@ fn data_row(p: Precinct, parts: Parts, bytes: usize) -> Verdict
     let dat = parts.dat;
     let sgn = parts.sgn;
     let size = sgn - dat;
-    let left = less(p.end, sgn);
+    let left = p.end.saturating_sub(sgn);
     let signs = parts.past - sgn;
-    rows::first([
+    rows::first(&[
         Check(Row::Length, dat, Field::Data, size, 0, p.end - dat),
         Check(Row::Length, dat, Field::Data, size, bytes, AMPLE),
         Check(Row::Length, sgn, Field::Signs, signs, 0, left),
-        HOLDS,
-        HOLDS,
-        HOLDS,
-        HOLDS,
-        HOLDS,
     ])
 }
 
@@ -274,7 +267,7 @@ fn long_row(cnt: usize, n: usize, br: usize) -> Verdict
     ensures { result ≡ first (check Count cnt Ones n 0 (2 ^ (br + 1) - 1) ∷ []) }
 {
     let all: usize = 1 << (br + 1);
-    rows::one(Check(Row::Count, cnt, Field::Ones, n, 0, all - 1))
+    rows::first(&[Check(Row::Count, cnt, Field::Ones, n, 0, all - 1)])
 }
 
 // Counts that are refused: no content.
@@ -291,7 +284,7 @@ fn none(v: Verdict) -> Content
 
 // What follows the counts: their own row, or the lengths of the data and of the signs, and then the values.
 fn after_counts(
-    line: counts::Line,
+    line: Result<Counted, Fault>,
     s: &[u8],
     cells: &mut [i64],
     c: Setting,
@@ -305,7 +298,7 @@ fn after_counts(
     let cnt = parts.cnt;
     let dat = parts.dat;
     match line {
-        counts::Line::Done { next, need } => {
+        Ok(Counted { next, need }) => {
             let bytes = bytes_of_nibbles(need);
             let v = data_row(p, parts, bytes);
             let k = values_by(v, s, cells, c, p, slot, parts);
@@ -317,12 +310,12 @@ fn after_counts(
                 signs: k.signs,
             }
         }
-        counts::Line::Cut => {
+        Err(Fault::Cut) => {
             let size = dat - cnt;
-            none(rows::one(Check(Row::Length, cnt, Field::Counts, size, size + 1, AMPLE)))
+            none(rows::first(&[Check(Row::Length, cnt, Field::Counts, size, size + 1, AMPLE)]))
         }
-        counts::Line::High(m) => none(rows::one(Check(Row::Count, cnt, Field::M, m, 0, 31))),
-        counts::Line::Long(n) => none(long_row(cnt, n, c.br)),
+        Err(Fault::High(m)) => none(rows::first(&[Check(Row::Count, cnt, Field::M, m, 0, 31)])),
+        Err(Fault::Long(n)) => none(long_row(cnt, n, c.br)),
     }
 }
 
@@ -352,8 +345,8 @@ fn bytes_by(v: Verdict, parts: Parts, counts: usize, data: usize, signs: usize) 
     ensures { result ≡ bytes_by v (part_bytes parts counts «data» signs) }
 {
     match v {
-        Verdict::Fine => bytes_of(parts, counts, data, signs),
-        Verdict::Refused(_) => NOTHING,
+        Ok(()) => bytes_of(parts, counts, data, signs),
+        Err(_) => NOTHING,
     }
 }
 
@@ -365,7 +358,7 @@ fn counts_of(
     p: Precinct,
     slot: usize,
     parts: Parts,
-) -> counts::Line
+) -> Result<Counted, Fault>
     requires { Working s.now c p slot (length cells.old) × IsParts s.now c p slot parts.at parts × (parts.dat ≤ p.end) }
     ensures { counts_of s.now c p slot parts.at cells.old ≡ (result, cells.new) }
 {
@@ -390,7 +383,7 @@ fn counts_by(
     ensures { IsPassed s.now c p slot parts.at v cells.old result cells.new }
 {
     match v {
-        Verdict::Fine => {
+        Ok(()) => {
             let line = counts_of(s, cells, c, p, slot, parts);
             let k = after_counts(line, s, cells, c, p, slot, parts);
             let w = k.verdict;
@@ -399,7 +392,7 @@ fn counts_by(
                 bytes: bytes_by(w, parts, k.counts, k.data, k.signs),
             }
         }
-        Verdict::Refused(_) => Passed {
+        Err(_) => Passed {
             verdict: v,
             bytes: NOTHING,
         },

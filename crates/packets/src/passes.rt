@@ -11,8 +11,8 @@ ghost use Rattle.packets.specs.Steps.{Within, Working, Lies, IsMarks, AllMarks, 
 
 use crate::bands::{mode_of, truncation_of};
 use crate::{Precinct, Setting};
-use counts::Place;
-use counts::group::{Coding, Mode};
+use counts::group::{Coding, Fault, Mode};
+use counts::{Counted, Place};
 use layout::Line;
 use values::Next;
 
@@ -32,13 +32,10 @@ pub fn any_line(c: Setting, p: Precinct, slot: usize) -> bool
 {
     let shape = c.shape;
     let n = layout::lines::candidate_count(shape, slot);
-    let mut j: usize = 0;
-    while j < n {
-        let l = candidate(c, p, slot, j);
-        if l.present {
+    for j in 0..n {
+        if candidate(c, p, slot, j).present {
             return true;
         }
-        j += 1;
     }
     false
 }
@@ -83,10 +80,8 @@ pub(crate) fn all_marks(s: &[u8], c: Setting, p: Precinct, slot: usize, raw: boo
     let shape = c.shape;
     let n = layout::lines::candidate_count(shape, slot);
     let mut sum: usize = 0;
-    let mut j: usize = 0;
-    while j < n {
+    for j in 0..n {
         sum += marks_at(s, c, p, slot, j, raw);
-        j += 1;
     }
     sum
 }
@@ -132,7 +127,7 @@ fn count_line(
     raw: bool,
     at: usize,
     z: usize,
-) -> counts::Line
+) -> Result<Counted, Fault>
     requires { Settled c × Standing s.now c p (length cells.old) × (l.present ≡ true → Lies c.shape p.row l) × (length cnt.now < 2 ^ 56) × (z < 2 ^ 60) }
     ensures { count_line s.now c p cnt.now sig.now raw l at z cells.old ≡ (result, cells.new) }
 {
@@ -147,7 +142,7 @@ fn count_line(
         };
         return counts::line_counts(cnt, sig, cells, coding, place, at, z);
     }
-    counts::Line::Done { next: at, need: 0 }
+    Ok(Counted { next: at, need: 0 })
 }
 
 // The counts of all lines, from their stretch and that of the significance flags.
@@ -160,7 +155,7 @@ pub(crate) fn packet_counts(
     p: Precinct,
     slot: usize,
     raw: bool,
-) -> counts::Line
+) -> Result<Counted, Fault>
     requires { Working s.now c p slot (length cells.old) × (length cnt.now < 2 ^ 56) }
     ensures { packet_counts s.now c p slot cnt.now sig.now raw cells.old ≡ (result, cells.new) }
 {
@@ -169,31 +164,14 @@ pub(crate) fn packet_counts(
     let mut at: usize = 0;
     let mut need: usize = 0;
     let mut z: usize = 0;
-    let mut j: usize = 0;
-    while j < n {
+    for j in 0..n {
         let l = candidate(c, p, slot, j);
-        match count_line(s, cnt, sig, cells, c, p, l, raw, at, z) {
-            counts::Line::Done { next, need: more } => {
-                at = next;
-                need += more;
-            }
-            counts::Line::Cut => {
-                return counts::Line::Cut;
-            }
-            counts::Line::High(m) => {
-                return counts::Line::High(m);
-            }
-            counts::Line::Long(ones) => {
-                return counts::Line::Long(ones);
-            }
-        }
+        let counted = count_line(s, cnt, sig, cells, c, p, l, raw, at, z)?;
+        at = counted.next;
+        need += counted.need;
         z += marks_of(s, c, p, l, raw);
-        j += 1;
     }
-    counts::Line::Done {
-        next: at,
-        need: need,
-    }
+    Ok(Counted { next: at, need })
 }
 
 // The values of a line.
@@ -244,11 +222,9 @@ pub(crate) fn packet_values(
     let n = layout::lines::candidate_count(shape, slot);
     let pairs = values::pairs::table();
     let mut next = Next { at: 0, sign: 0 };
-    let mut j: usize = 0;
-    while j < n {
+    for j in 0..n {
         let l = candidate(c, p, slot, j);
         next = value_line(&pairs, dat, sgn, cells, c, p, l, next);
-        j += 1;
     }
     next
 }

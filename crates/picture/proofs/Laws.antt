@@ -10,10 +10,9 @@ use lib.Dec.{eqb, ltb, lit≤}
 use lib.ListN.{length}
 use Rattle.bits.specs.Fields.{field_at}
 use Rattle.bits.proofs.Laws.{field_lt}
-use Rattle.rows.specs.Rows.{first}
+use Rattle.rows.specs.Rows.{first, Fine}
 use Rattle.rows.specs.declared.Field.{Field}
 use Rattle.rows.specs.declared.Field.TheVariants.{Pih, Lpih}
-use Rattle.rows.specs.declared.Verdict.TheVariants.{Fine}
 use Rattle.rows.proofs.Tables.{append_fine, held}
 use Rattle.picture.specs.Markers.{PIH}
 use Rattle.picture.specs.Opening.{start_checks, picture_place, picture_checks, opening_checks, Opened}

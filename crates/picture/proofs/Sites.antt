@@ -5,11 +5,10 @@ use mathlib.Core.Path.{◌≡◌}
 use native.Mathlib.Omega.{arith}
 use lib.Dec.{lit≤}
 use lib.ListN.{length}
-use Rattle.rows.specs.Rows.{first}
+use Rattle.rows.specs.Rows.{first, Fine}
 use Rattle.rows.specs.declared.Check.{Check}
 use Rattle.rows.specs.declared.Field.{Field}
 use Rattle.rows.specs.declared.Field.TheVariants.{Soc, Cap, Lcap, Pih, Lpih}
-use Rattle.rows.specs.declared.Verdict.TheVariants.{Fine}
 use Rattle.rows.proofs.Sites.{Sited, standing, standing_then, sited_append}
 use Rattle.rows.proofs.Tables.{append_fine, held}
 use Rattle.picture.specs.Markers.{SOC, CAP, PIH}

@@ -22,11 +22,10 @@ pub struct Opening {
 fn start_row(s: &[u8]) -> Verdict
     ensures { result ≡ first (start_checks s.now) }
 {
-    let soc = marker_row(Segment::read(s, 0), Field::Soc, Marker::SOC);
+    marker_row(Segment::read(s, 0), Field::Soc, Marker::SOC)?;
     let g = Segment::read(s, 2);
-    let cap = marker_row(g, Field::Cap, Marker::CAP);
-    let lcap = length_row(g, Field::Lcap, 2, 0xffff);
-    rows::then(soc, rows::then(cap, lcap))
+    marker_row(g, Field::Cap, Marker::CAP)?;
+    length_row(g, Field::Lcap, 2, 0xffff)
 }
 
 // The picture header at p.
@@ -35,10 +34,9 @@ fn picture_row(s: &[u8], p: usize, h: Picture) -> Verdict
     ensures { result ≡ first (picture_checks s.now p) }
 {
     let g = Segment::read(s, p);
-    let pih = marker_row(g, Field::Pih, Marker::PIH);
-    let lpih = length_row(g, Field::Lpih, 26, 26);
-    let fields = field_row(s.len(), p, h);
-    rows::then(pih, rows::then(lpih, fields))
+    marker_row(g, Field::Pih, Marker::PIH)?;
+    length_row(g, Field::Lpih, 26, 26)?;
+    field_row(s.len(), p, h)
 }
 
 impl Opening {
@@ -49,7 +47,7 @@ impl Opening {
         let place = 4 + bits::u16_at(s, 4);
         let picture = Picture::read(s, place);
         Self {
-            verdict: rows::then(start_row(s), picture_row(s, place, picture)),
+            verdict: start_row(s).and(picture_row(s, place, picture)),
             place,
             picture,
         }

@@ -3,7 +3,7 @@ ghost use Rattle.std.specs.Prelude.{◌≡◌, ◌<◌, ◌^◌};
 ghost use Rattle.rows.specs.Rows.{first};
 ghost use Rattle.picture.specs.Picture.{no_picture, picture_at, size_checks, precision_checks, mode_checks, level_checks, field_checks};
 
-use rows::{AMPLE, Check, Field, HOLDS, Row, Verdict};
+use rows::{AMPLE, Check, Field, Row, Verdict};
 
 // Every field of Table A.7 behind the segment's length, in the standard's letters.
 #[derive(Clone, Copy)]
@@ -107,7 +107,7 @@ fn size_row(n: usize, p: usize, h: Picture) -> Verdict
     requires { p < 2 ^ 32 }
     ensures { result ≡ first (size_checks n p h) }
 {
-    rows::first([
+    rows::first(&[
         Check(Row::Lacking, p + 4, Field::Lcod, h.lcod, 1, AMPLE),
         Check(Row::Length, p + 4, Field::Lcod, h.lcod, n, n),
         Check(Row::Value, p + 12, Field::Wf, h.wf, 1, 0xffff),
@@ -115,7 +115,6 @@ fn size_row(n: usize, p: usize, h: Picture) -> Verdict
         Check(Row::Value, p + 14, Field::Hf, h.hf, 1, 0xffff),
         Check(Row::Lacking, p + 14, Field::Hf, h.hf, 1, 16384),
         Check(Row::Value, p + 18, Field::Hsl, h.hsl, 1, 0xffff),
-        HOLDS,
     ])
 }
 
@@ -125,13 +124,12 @@ fn precision_row(p: usize, h: Picture) -> Verdict
     ensures { result ≡ first (precision_checks p h) }
 {
     let bw = h.bw;
-    let wide = rows::choose(bw == 18, 18, 20);
-    let least = rows::choose(bw < 18, 8, wide);
-    let most = rows::choose(bw < 18, 16, wide);
-    let built = rows::choose(bw == 18, 20, 8);
-    let fq = rows::choose(bw == 20, 8, 0);
-    let br = rows::choose((bw <= 12) | (bw == 20), 4, 5);
-    rows::first([
+    let wide = if bw == 18 { 18 } else { 20 };
+    let (least, most) = if bw < 18 { (8, 16) } else { (wide, wide) };
+    let built = if bw == 18 { 20 } else { 8 };
+    let fq = if bw == 20 { 8 } else { 0 };
+    let br = if bw <= 12 || bw == 20 { 4 } else { 5 };
+    rows::first(&[
         Check(Row::Value, p + 20, Field::Nc, h.nc, 1, 8),
         Check(Row::Lacking, p + 20, Field::Nc, h.nc, 1, 4),
         Check(Row::Value, p + 21, Field::Ng, h.ng, 4, 4),
@@ -149,17 +147,13 @@ fn mode_row(p: usize, h: Picture) -> Verdict
     ensures { result ≡ first (mode_checks p h) }
 {
     let cpih = h.cpih;
-    let some = rows::choose((3 < h.nc) & (cpih == 3), 3, 1);
-    let most = rows::choose(h.nc < 3, 0, some);
-    rows::first([
+    let some = if 3 < h.nc && cpih == 3 { 3 } else { 1 };
+    let most = if h.nc < 3 { 0 } else { some };
+    rows::first(&[
         Check(Row::Value, p + 25, Field::Fslc, h.fslc, 0, 0),
         Check(Row::Value, p + 25, Field::Ppoc, h.ppoc, 0, 0),
         Check(Row::Value, p + 25, Field::Cpih, cpih, 0, most),
         Check(Row::Lacking, p + 25, Field::Cpih, cpih, 0, 1),
-        HOLDS,
-        HOLDS,
-        HOLDS,
-        HOLDS,
     ])
 }
 
@@ -168,7 +162,7 @@ fn level_row(p: usize, h: Picture) -> Verdict
     requires { p < 2 ^ 32 }
     ensures { result ≡ first (level_checks p h) }
 {
-    rows::first([
+    rows::first(&[
         Check(Row::Value, p + 26, Field::Nlx, h.nlx, 1, 8),
         Check(Row::Lacking, p + 26, Field::Nlx, h.nlx, 1, 5),
         Check(Row::Value, p + 26, Field::Nly, h.nly, 0, h.nlx),
@@ -185,7 +179,8 @@ pub(crate) fn field_row(n: usize, p: usize, h: Picture) -> Verdict
     requires { p < 2 ^ 32 }
     ensures { result ≡ first (field_checks n p h) }
 {
-    let modes = rows::then(mode_row(p, h), level_row(p, h));
-    let later = rows::then(precision_row(p, h), modes);
-    rows::then(size_row(n, p, h), later)
+    size_row(n, p, h)?;
+    precision_row(p, h)?;
+    mode_row(p, h)?;
+    level_row(p, h)
 }

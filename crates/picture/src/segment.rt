@@ -23,7 +23,7 @@ pub struct Segment {
 pub fn left(s: &[u8], at: usize) -> usize
     ensures { result ≡ length s.now - at }
 {
-    if at < s.len() { s.len() - at } else { 0 }
+    s.len().saturating_sub(at)
 }
 
 impl Segment {
@@ -46,10 +46,10 @@ impl Segment {
 pub(crate) fn marker_row(g: Segment, field: Field, code: usize) -> Verdict
     ensures { result ≡ first (marker_checks g field code) }
 {
-    rows::two(
+    rows::first(&[
         Check(Row::Cut, g.at, field, g.left, 2, AMPLE),
         Check(Row::Marker, g.at, field, g.marker, code, code),
-    )
+    ])
 }
 
 // The length of a segment, and that it ends in the stream.
@@ -58,9 +58,9 @@ pub fn length_row(g: Segment, field: Field, least: usize, most: usize) -> Verdic
     ensures { result ≡ first (length_checks g field least most) }
 {
     let p = g.at + 2;
-    rows::three(
+    rows::first(&[
         Check(Row::Cut, p, field, g.rest, 2, AMPLE),
         Check(Row::Cut, p, field, g.rest, g.size, AMPLE),
         Check(Row::Value, p, field, g.size, least, most),
-    )
+    ])
 }

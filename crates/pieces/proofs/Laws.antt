@@ -1,4 +1,5 @@
 -- The totals of pieces, and of the pieces along a loop. Assumes nothing.
+use Rattle.std.specs.Prelude.{Ok, Err}
 use Prim.Native.Nat.{ℕ, zero, suc, ◌+◌, ◌-◌, ◌≤◌, ◌<◌}
 use mathlib.Core.Bool.{Bool, true, false, cond}
 use mathlib.Core.List.{List, [], ◌∷◌, ◌++◌}
@@ -9,8 +10,7 @@ use Rattle.loops.specs.Run.{Turn, go, stop, then, run}
 use Rattle.loops.specs.Along.{along}
 use Rattle.loops.proofs.Along.{Each}
 use Rattle.rows.specs.declared.Check.{Check}
-use Rattle.rows.specs.declared.Verdict.{Verdict}
-use Rattle.rows.specs.declared.Verdict.TheVariants.{Fine, Refused}
+use Rattle.rows.specs.Rows.{Fine, Refused, Verdict}
 use Rattle.pieces.specs.declared.Bytes.{Bytes}
 use Rattle.pieces.specs.Pieces.{Kind, Markers, Precincts, Packets, Significance, Counts, Data, Signs, Filler, Spoilt, alike, Piece, total, size, bytes_of, nothing, bytes_by, plus, all}
 
@@ -115,8 +115,8 @@ pub read_few : {v : Verdict} {b : Bytes} (ps : List Piece) (n : ℕ) → 0 < n �
 read_few {v} {b} ps n some h fits = by v refl
   where
     by : (w : Verdict) → v ≡ w → all b < n
-    by Fine e = omega (arith, read_size ps h e, fits e)
-    by (Refused k) e = let none = ap all (h ∙ (λ i. bytes_by (e i) (bytes_of ps))) in omega (arith, none, some)
+    by (Ok _) e = omega (arith, read_size ps h e, fits e)
+    by (Err k) e = let none = ap all (h ∙ (λ i. bytes_by (e i) (bytes_of ps))) in omega (arith, none, some)
 
 pub refused_bytes : {v : Verdict} {k : Check} (b : Bytes) → v ≡ Refused k → nothing ≡ bytes_by v b
 refused_bytes b e = λ i. bytes_by (sym e i) b

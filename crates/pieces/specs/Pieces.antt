@@ -1,9 +1,8 @@
 -- Document 02, C-16: 'The page record gains totals for markers and their segments (slice headers and the end marker with them), precinct headers, packet
 -- headers, each kind of subpacket, filler and, in C-15's mode, the precincts of spoilt slices. Each total comes from its own definition over the stream's pieces.'
 -- A piece is a stretch of a stream: what it holds, and how many bytes it has. `Pieces` of packets, slices, damage and header say which pieces a stream has.
-use Rattle.std.specs.Prelude.{ℕ, ◌+◌, Bool, cond, List, [], ◌∷◌, eqb}
-use Rattle.rows.specs.declared.Verdict.{Verdict}
-use Rattle.rows.specs.declared.Verdict.TheVariants.{Fine, Refused}
+use Rattle.std.specs.Prelude.{ℕ, ◌+◌, Bool, cond, List, [], ◌∷◌, eqb, Ok, Err}
+use Rattle.rows.specs.Rows.{Verdict}
 use Rattle.pieces.specs.declared.Bytes.{Bytes}
 
 -- in the order of the totals. Of the four kinds of subpacket a piece is the content, 'padding to the byte included'; what is declared behind it is filler
@@ -65,8 +64,8 @@ nothing = record { markers = 0; precincts = 0; packets = 0; significance = 0; co
 
 -- 'On refusal all are 0'
 abbrev pub bytes_by : Verdict → Bytes → Bytes
-bytes_by Fine b = b
-bytes_by (Refused k) b = nothing
+bytes_by (Ok _) b = b
+bytes_by (Err k) b = nothing
 
 -- two, kind by kind
 abbrev pub plus : Bytes → Bytes → Bytes

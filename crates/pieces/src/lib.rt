@@ -38,27 +38,30 @@ impl Bytes {
     pub fn of_markers(size: usize) -> Bytes
         ensures { result ≡ bytes_of ((Markers, size) ∷ []) }
     {
-        let mut b = NOTHING;
-        b.markers = size;
-        b
+        Bytes {
+            markers: size,
+            ..NOTHING
+        }
     }
 
     // Of precinct headers.
     pub fn of_precincts(size: usize) -> Bytes
         ensures { result ≡ bytes_of ((Precincts, size) ∷ []) }
     {
-        let mut b = NOTHING;
-        b.precincts = size;
-        b
+        Bytes {
+            precincts: size,
+            ..NOTHING
+        }
     }
 
     // Of the precincts of spoilt slices.
     pub fn of_spoilt(size: usize) -> Bytes
         ensures { result ≡ bytes_of ((Spoilt, size) ∷ []) }
     {
-        let mut b = NOTHING;
-        b.spoilt = size;
-        b
+        Bytes {
+            spoilt: size,
+            ..NOTHING
+        }
     }
 
     // These and others.
@@ -84,8 +87,8 @@ impl Bytes {
         ensures { result ≡ bytes_by v self }
     {
         match v {
-            Verdict::Fine => self,
-            Verdict::Refused(_) => NOTHING,
+            Ok(()) => self,
+            Err(_) => NOTHING,
         }
     }
 }

@@ -1,8 +1,6 @@
 -- What the exported functions leave, by the reader's and the header's definitions.
-use Rattle.std.specs.Prelude.{Bool, true, false, cond, List, [], ◌∷◌, ◌++◌, ◌≡◌, ℕ, ◌-◌, ◌*◌, ◌/◌, ◌%◌, ◌^◌, eqb, ℤ, length, get_or, replicate}
-use Rattle.rows.specs.Rows.{number}
-use Rattle.rows.specs.declared.Verdict.{Verdict}
-use Rattle.rows.specs.declared.Verdict.TheVariants.{Fine, Refused}
+use Rattle.std.specs.Prelude.{Bool, true, false, cond, List, [], ◌∷◌, ◌++◌, ◌≡◌, ℕ, ◌-◌, ◌*◌, ◌/◌, ◌%◌, ◌^◌, eqb, ℤ, length, get_or, replicate, Ok, Err}
+use Rattle.rows.specs.Rows.{number, Verdict}
 use Rattle.fields.specs.Names.{name_of, codes}
 use Rattle.header.specs.Header.{reading_of}
 use Rattle.header.specs.declared.header.Header.{Header}
@@ -56,8 +54,8 @@ HandedDamagedPlaces = HandedBy true
 -- ---- N, how many samples the page has: 0 where the header is refused
 
 abbrev pub needed_by : Verdict → Header → ℕ
-needed_by Fine h = N h
-needed_by (Refused c) h = 0
+needed_by (Ok _) h = N h
+needed_by (Err c) h = 0
 
 unfoldable pub needed : List ℕ → ℕ
 needed s = needed_by (reading_of s).verdict (reading_of s).header
@@ -66,13 +64,13 @@ needed s = needed_by (reading_of s).verdict (reading_of s).header
 
 -- number, place, the value found, least and most, and whether these are codes. Of a page that is read all is 0 but the place, which is `end`
 abbrev pub reason_cells : Verdict → ℕ → List ℕ
-reason_cells Fine end = 0 ∷ end ∷ 0 ∷ 0 ∷ 0 ∷ 0 ∷ []
-reason_cells (Refused c) end = number c.0 ∷ c.1 ∷ c.3 ∷ c.4 ∷ c.5 ∷ cond (codes c.0 c.2) 1 0 ∷ []
+reason_cells (Ok _) end = 0 ∷ end ∷ 0 ∷ 0 ∷ 0 ∷ 0 ∷ []
+reason_cells (Err c) end = number c.0 ∷ c.1 ∷ c.3 ∷ c.4 ∷ c.5 ∷ cond (codes c.0 c.2) 1 0 ∷ []
 
 -- the name of the field, and zeros behind it
 abbrev pub reason_name : Verdict → List ℕ
-reason_name Fine = replicate 40 0
-reason_name (Refused c) = name_of c.2 ++ replicate (40 - length (name_of c.2)) 0
+reason_name (Ok _) = replicate 40 0
+reason_name (Err c) = name_of c.2 ++ replicate (40 - length (name_of c.2)) 0
 
 pub record IsReason (v : Verdict) (end : ℕ) (r : Reason) : Type 0 where
   pub cells_are : r.cells ≡ reason_cells v end

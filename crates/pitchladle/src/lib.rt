@@ -2,26 +2,15 @@
 // buffers hold.
 #![tactic(auto)]
 
-ghost use Rattle.std.specs.Prelude.{◌≡◌, cond};
-ghost use Rattle.rows.specs.declared.Verdict.TheVariants.{Fine};
-ghost use Rattle.layout.specs.Built.{Built};
-ghost use Rattle.shapes.specs.Shapes.{shape_of};
-ghost use Rattle.pitchladle.specs.Exported.{cells_of, Handed, HandedDamaged, HandedPlaces, HandedDamagedPlaces, needed_by, needed, IsReason, Explained, coarsest_cells, HandedCoarsest};
+ghost use Rattle.std.specs.Prelude.{◌≡◌};
+ghost use Rattle.pitchladle.specs.Exported.{cells_of, Handed, HandedDamaged, HandedPlaces, HandedDamagedPlaces, needed, IsReason, Explained, coarsest_cells, HandedCoarsest};
 
-use header::header::Header;
 use layout::lines::samples_before;
 use reader::judging::judge;
 use reader::page::Page;
 use reasons::Why;
 use rows::Verdict;
 use shapes::shape_of;
-
-// 1 for yes and 0 for no.
-fn flag(b: bool) -> u64
-    ensures { result ≡ cond b 1 0 }
-{
-    if b { 1 } else { 0 }
-}
 
 // The record as it crosses: answer, place, component count, caption, width, height, precision and distance of each of four components, and the nine totals of
 // bytes.
@@ -37,7 +26,7 @@ fn cells_of(p: Page) -> [u64; 29]
         p.answer as u64,
         p.place as u64,
         p.components as u64,
-        flag(p.caption),
+        u64::from(p.caption),
         w[0] as u64,
         h[0] as u64,
         b[0] as u64,
@@ -66,7 +55,7 @@ fn cells_of(p: Page) -> [u64; 29]
     ]
 }
 
-// Reads a page, or refuses it.
+// Reads a page, or refuses it. Each of the four ways to read is a function of its own, since C calls it by name (include/pitchladle.h).
 #[unsafe(no_mangle)]
 pub extern "C" fn pitchladle_read(
     stream: &[u8],
@@ -138,25 +127,23 @@ fn reason_of(v: Verdict, end: usize) -> Reason
     ensures { IsReason v end result }
 {
     match v {
-        Verdict::Fine => Reason {
+        Ok(()) => Reason {
             cells: [0, end as u64, 0, 0, 0, 0],
             name: [0; 40],
         },
-        Verdict::Refused(c) => {
+        Err(c) => {
             let row = c.0;
             let field = c.2;
-            let name = fields::name(field);
-            let letters = name.letters;
             Reason {
                 cells: [
-                    rows::number(row) as u64,
+                    row.number() as u64,
                     c.1 as u64,
                     c.3 as u64,
                     c.4 as u64,
                     c.5 as u64,
-                    flag(fields::are_codes(row, field)),
+                    u64::from(fields::are_codes(row, field)),
                 ],
-                name: letters,
+                name: fields::padded_name(field),
             }
         }
     }
@@ -234,27 +221,16 @@ pub extern "C" fn pitchladle_coarsest(
     *cells = coarsest_of(w);
 }
 
-// How many samples stand behind an accepted header.
-fn needed_by(v: Verdict, h: Header) -> u64
-    requires { v ≡ Fine → Built (shape_of h) }
-    ensures { result ≡ needed_by v h }
-{
-    match v {
-        Verdict::Fine => {
-            let s = shape_of(h);
-            samples_before(s, s.nc) as u64
-        }
-        Verdict::Refused(_) => 0,
-    }
-}
-
 // N, how many samples the page has; 0 where its header is refused.
 #[unsafe(no_mangle)]
 pub extern "C" fn pitchladle_needs(stream: &[u8]) -> u64
     ensures { result ≡ needed stream.now }
 {
-    let r = header::read(stream);
-    let v = r.verdict;
-    let h = r.header;
-    needed_by(v, h)
+    match header::read(stream) {
+        Ok(h) => {
+            let s = shape_of(h);
+            samples_before(s, s.nc) as u64
+        }
+        Err(_) => 0,
+    }
 }

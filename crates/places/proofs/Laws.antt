@@ -1,19 +1,16 @@
 -- Filling cells with numbers: one turn more of a loop; no two turns of any of the loops share a cell; and behind all of them each coefficient's cell holds its
 -- own number. Assumes nothing.
-use mathlib.Core.Path.{◌≡◌, refl, sym, ap, subst, ◌∙◌}
-use mathlib.Core.Bool.{Bool, true, false}
+use mathlib.Core.Path.{◌≡◌, refl, sym, ap, ◌∙◌}
 use mathlib.Core.List.{List}
-use Prim.Native.Nat.{ℕ, ◌+◌, ◌*◌, ◌/◌, ◌^◌, ◌≤◌, ◌<◌}
+use Prim.Native.Nat.{ℕ, ◌+◌, ◌/◌, ◌^◌, ◌≤◌, ◌<◌}
 use native.Mathlib.Nat.{lt_of_lt_of_le}
 use native.Mathlib.Omega.{arith}
 use lib.IntN.{ℤ, pos}
-use lib.ListN.{length, set}
 use lib.Pow.{pow_mono}
-use Rattle.whole.specs.Cells.{cell, OntoLine}
-use Rattle.whole.proofs.Filling.{onto_turn, onto_none, line_next, store_onto}
+use Rattle.whole.specs.Cells.{cell}
+use Rattle.whole.proofs.Filling.{onto_turn, onto_none}
 use Rattle.quantiser.proofs.Laws.{band_small}
 use Rattle.wavelet.specs.Transform.{Kind}
-use Rattle.layout.specs.declared.Line.{Line}
 use Rattle.layout.specs.Bands.{band}
 use Rattle.layout.specs.Precincts.{Npx, Np, slices, slice_top}
 use Rattle.layout.specs.Cells.{area, start, cell as place}
@@ -23,7 +20,6 @@ use Rattle.packets.specs.declared.Setting.{Setting}
 use Rattle.packets.specs.declared.Precinct.{Precinct}
 use Rattle.packets.specs.Precincts.{T}
 use Rattle.packets.specs.Ready.{Settled}
-use Rattle.packets.specs.Passes.{line}
 use Rattle.packets.proofs.LinePasses.{T_most}
 use Rattle.packets.proofs.Addresses.{There, SameLine, same_line, part_below, there_exists, there_cell}
 use Rattle.slices.specs.Precinct.{precinct_at}
@@ -34,38 +30,14 @@ use Rattle.slices.proofs.Coefficients.{same_number, number_is, own_slice, own_nu
 use Rattle.distances.proofs.Types.{type_exists, type_cell}
 use Rattle.places.specs.Own.{truncation_at, own_number}
 use Rattle.places.specs.Steps.{Filled}
-use Rattle.places.specs.Writes.{Writes, first, Written, number_in, on_line, line_writes, slot_writes, precinct_writes, precincts_of, slices_of, stream_writes}
+use Rattle.places.specs.Writes.{Writes, first, Written, number_in, line_writes, slot_writes, precinct_writes, precincts_of, slices_of, stream_writes}
 
--- ---- a line's number, and its cells
+-- ---- a line's number
 
 -- T is at most 31
 pub number_small : (c : Setting) (p : Precinct) (b : ℕ) → Settled c → {k : ℕ} → 31 + c.fq ≤ k → number_in c p b < 2 ^ k
 number_small c p b settled {k} most =
     lt_of_lt_of_le (band_small (T c p b) c.fq) (pow_mono {i = T c p b + c.fq} {j = k} (omega (arith, T_most c p b settled, most)))
-
--- one more cell
-pub next_cell : (base stride : ℕ) → 0 < stride → {n : ℕ} {z : ℤ} {x y : List ℤ} → OntoLine base stride n (λ _. z) x y → base + n * stride < length y
-    → OntoLine base stride (n + 1) (λ _. z) x (set y (base + n * stride) z)
-next_cell base stride up {n} {z} {y = y} p inside =
-    line_next base stride up p n 1 (base + n * stride) refl (λ i h. omega arith) (λ i h. omega arith) (λ i h l. l) (λ i h l. absurd (omega arith)) (λ i h. refl)
-    (store_onto y (base + n * stride) stride z inside)
-
--- the whole line
-pub line_filled : (base stride : ℕ) {n m : ℕ} {z z' : ℤ} {x y : List ℤ} → n ≡ m → z ≡ z' → OntoLine base stride n (λ _. z) x y → OntoLine base stride m (λ _. z') x y
-line_filled base stride e f p = rw (← e, ← f) p
-
--- candidate j of a slot, as the code has it: there, and absent
-module _ (c : Setting) (p : Precinct) (slot j : ℕ) {l : Line} (e : l ≡ line c p slot j) where
-  pub line_written : {z : ℤ} {x y : List ℤ} → l.present ≡ true → z ≡ pos (number_in c p l.band) → OntoLine l.cell l.stride l.width (λ _. z) x y
-      → Written (line_writes c p slot j) x y
-  line_written {x = x} {y} there f w =
-      subst (λ (k : Line). Written (on_line c p k) x y) e
-      (record { same = w.same; on = λ n h. w.on n h.1 ∙ f; off = λ k far. w.off k (λ n h. far n (there, h)) })
-
-  pub line_absent : {x : List ℤ} → l.present ≡ false → Written (line_writes c p slot j) x x
-  line_absent {x} absent =
-      subst (λ (k : Line). Written (on_line c p k) x x) e
-      (onto_none (λ n h. let z : ◌≡◌ {A = Bool} false true = sym absent ∙ h.0 in let o : ◌≡◌ {A = ℕ} 0 1 = cc in absurd (omega arith)))
 
 -- ---- a loop, each of whose turns writes
 

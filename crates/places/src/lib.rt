@@ -3,7 +3,7 @@
 
 ghost use Rattle.std.specs.Prelude.{◌≡◌, ◌≤◌, ◌<◌, pos, length};
 ghost use Rattle.whole.specs.Cells.{OntoLine};
-ghost use Rattle.rows.specs.declared.Verdict.TheVariants.{Fine};
+ghost use Rattle.rows.specs.Rows.{Fine};
 ghost use Rattle.layout.specs.Bands.{NL};
 ghost use Rattle.layout.specs.Precincts.{Npx, Npy, slices};
 ghost use Rattle.layout.specs.Cells.{start};
@@ -27,13 +27,8 @@ fn fill_line(cells: &mut [i64], l: Line, number: i64)
     requires { InCells l.cell l.stride l.width (length cells.old) × (0 < l.stride) }
     ensures { OntoLine l.cell l.stride l.width (λ _. number) cells.old cells.new }
 {
-    let first = l.cell;
-    let stride = l.stride;
-    let width = l.width;
-    let mut x = 0;
-    while x < width {
-        cells[first + x * stride] = number;
-        x += 1;
+    for x in 0..l.width {
+        cells[l.cell + x * l.stride] = number;
     }
 }
 
@@ -51,8 +46,7 @@ fn fill_candidate(cells: &mut [i64], c: Setting, p: Precinct, slot: usize, j: us
     requires { Slotted c p slot × (j < candidates c.shape slot) × (start c.shape c.shape.nc ≤ length cells.old) }
     ensures { Written (line_writes c p slot j) cells.old cells.new }
 {
-    let shape = c.shape;
-    let l = line_at(shape, p.row, p.column, slot, j);
+    let l = line_at(c.shape, p.row, p.column, slot, j);
     if l.present {
         fill_line(cells, l, number_in(c, p, l.band));
     }
@@ -62,12 +56,8 @@ fn fill_slot(cells: &mut [i64], c: Setting, p: Precinct, slot: usize)
     requires { Slotted c p slot × (start c.shape c.shape.nc ≤ length cells.old) }
     ensures { Written (slot_writes c p slot) cells.old cells.new }
 {
-    let shape = c.shape;
-    let n = candidate_count(shape, slot);
-    let mut j = 0;
-    while j < n {
+    for j in 0..candidate_count(c.shape, slot) {
         fill_candidate(cells, c, p, slot, j);
-        j += 1;
     }
 }
 
@@ -75,12 +65,8 @@ fn fill_precinct(cells: &mut [i64], c: Setting, p: Precinct)
     requires { Settled c × (p.row < Npy c.shape) × (p.column < Npx c.shape) × (start c.shape c.shape.nc ≤ length cells.old) }
     ensures { Written (precinct_writes c p) cells.old cells.new }
 {
-    let shape = c.shape;
-    let n = slot_count(shape);
-    let mut slot = 0;
-    while slot < n {
+    for slot in 0..slot_count(c.shape) {
         fill_slot(cells, c, p, slot);
-        slot += 1;
     }
 }
 
@@ -89,14 +75,11 @@ fn fill_slice(s: &[u8], cells: &mut [i64], c: Setting, t: usize, at: usize) -> u
     requires { Lent s.now c at (length cells.old) × (t < slices c.shape) × ((walk_slice s.now c t at).0 ≡ Fine) }
     ensures { (result ≡ (walk_slice s.now c t at).1) × Written (slice_writes s.now c t at) cells.old cells.new }
 {
-    let count = precincts_in_slice(c.shape, t);
     let mut place = at + 6;
-    let mut n = 0;
-    while n < count {
+    for n in 0..precincts_in_slice(c.shape, t) {
         let p = precinct_in(s, c, t, n, place);
         fill_precinct(cells, c, p);
         place = p.end;
-        n += 1;
     }
     place
 }
@@ -107,11 +90,8 @@ pub fn fill(s: &[u8], cells: &mut [i64], c: Setting, at: usize)
     requires { Lent s.now c at (length cells.old) × ((walk_stream s.now c at).0 ≡ Fine) }
     ensures { Filled s.now c at cells.old cells.new }
 {
-    let count = slice_count(c.shape);
     let mut place = at;
-    let mut t = 0;
-    while t < count {
+    for t in 0..slice_count(c.shape) {
         place = fill_slice(s, cells, c, t, place);
-        t += 1;
     }
 }

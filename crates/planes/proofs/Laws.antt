@@ -1,17 +1,17 @@
 -- Laws of the whole way from coefficients to samples: sizes, which coefficients count, and how far a sample may be off. Assumes nothing.
 use mathlib.Core.Path.{◌≡◌, sym, subst, ap, ◌∙◌}
-use mathlib.Core.Logic.{◌≢◌}
 use mathlib.Core.List.{List}
 use Prim.Native.Nat.{ℕ, ◌+◌, ◌*◌, ◌/◌, ◌%◌, ◌^◌, ◌≤◌, ◌<◌}
 use native.Mathlib.Nat.{le_refl, div-add-mod'}
-use native.Mathlib.Decide.{ℕ_discrete}
 use native.Mathlib.Omega.{arith}
 use lib.IntN.{ℤ, pos, nat_abs}
 use lib.Seq.{ext_get_or}
 use Rattle.whole.specs.Cells.{cell}
 use Rattle.whole.specs.Numbers.{Within, Near}
+use Rattle.whole.specs.declared.Kind.{Kind}
+use Rattle.whole.specs.declared.Kind.TheVariants.{Samples, Numbers}
 use Rattle.wavelet.specs.Filter.{samples}
-use Rattle.wavelet.specs.Transform.{Kind}
+use Rattle.wavelet.specs.Transform.{Kind as FilterType}
 use Rattle.wavelet.specs.Distance.{numbers, component_number}
 use Rattle.wavelet.proofs.Components.{inverse_same, inverse_within, inverse_small, inverse_joined, component_within, component_most, placed}
 use Rattle.colour.specs.Rct.{numbers_rct}
@@ -27,7 +27,7 @@ use Rattle.planes.specs.Places.{values_in, coefficients_in, Inside, Colours, Rea
 use Rattle.planes.specs.Numbers.{numbered, numbers_of, held, numbers_in, HoldingNumbers, filtered_of, coloured_of}
 use Rattle.planes.proofs.Stretches.{component, row_below, Owner, within, outside, owner}
 use Rattle.planes.proofs.Colouring.{Behind, same_place, coloured_within, coloured_same, coloured_size}
-use Rattle.planes.proofs.EitherKind.{filtered_samples, filtered_numbers, kept_same}
+use Rattle.planes.proofs.EitherKind.{kept_same}
 
 -- ---- sizes: no value leaves the machine's range
 
@@ -55,12 +55,9 @@ module _ {s : Shape} {l : List ℤ} (ready : Ready s (2 ^ 40) l) where
         component_most (N'x s i) (N'y s i) parts.no_more (λ _ _ _. 2 ^ 40) (2 ^ 40) (λ _ _ _ _. le_refl (2 ^ 40)),
       )
 
-  pub filtered_small : (kind i x y : ℕ) → Inside s i x y → nat_abs (filtered_of kind s l i x y) ≤ 2 ^ 45
-  filtered_small kind i x y p = pick (ℕ_discrete kind 0)
-    where
-      pick : Dec (kind ≡ 0) → nat_abs (filtered_of kind s l i x y) ≤ 2 ^ 45
-      pick (yes e) = rw (filtered_samples s l i x y e) (transformed_small i x y p)
-      pick (no n) = rw (filtered_numbers s l i x y n) (numbered_small i x y p)
+  pub filtered_small : (kind : Kind) (i x y : ℕ) → Inside s i x y → nat_abs (filtered_of kind s l i x y) ≤ 2 ^ 45
+  filtered_small Samples = transformed_small
+  filtered_small Numbers = numbered_small
 
   pub numbers_small : {Cpih : ℕ} → Colours s Cpih → (i x y : ℕ) → Inside s i x y → numbers_of s Cpih (numbers_in s l) i x y ≤ 2 ^ 60
   numbers_small {Cpih} colours i x y p =
@@ -103,11 +100,11 @@ held_unique {s} {v} {l} {l'} {l''} built h g = ext_get_or (pos 0) l' l'' (h.same
 pub numbers_held : {s : Shape} {n : Values ℕ} {l l' : List ℤ} → Holding s (held n) l l' → HoldingNumbers s l'
 numbers_held h = record { number = λ i x y p. rw (h.values i x y p) }
 
-pub held_numbers : {s : Shape} {kind : ℕ} {l l' : List ℤ} → kind ≢ 0 → Holding s (filtered_of kind s l) l l' → HoldingNumbers s l'
-held_numbers {s} {l = l} n h = record { number = λ i x y p. rw (h.values i x y p ∙ filtered_numbers s l i x y n) }
+pub held_numbers : {s : Shape} {kind : Kind} {l l' : List ℤ} → kind ≡ Numbers → Holding s (filtered_of kind s l) l l' → HoldingNumbers s l'
+held_numbers e h = numbers_held (rw e at h)
 
 -- Annex F over what Annex E left
-pub held_coloured : {s : Shape} {Cpih : ℕ} {v : Values ℤ} {l l' l'' : List ℤ} → Built s → Colours s Cpih → (kind : ℕ) → Holding s v l l'
+pub held_coloured : {s : Shape} {Cpih : ℕ} {v : Values ℤ} {l l' l'' : List ℤ} → Built s → Colours s Cpih → (kind : Kind) → Holding s v l l'
     → Holding s (coloured_of kind Cpih (values_in s l')) l' l'' → Holding s (coloured_of kind Cpih v) l l''
 held_coloured {s} {v = v} {l' = l'} built colours kind h g =
     record {
@@ -145,7 +142,7 @@ module _ {s : Shape} (built : Built s) where
   transformed_within_places N T T' given i x y p =
       inverse_within (built.sampled i p.component).parts (T i) (T' i) (N i) (given i p.component) x y p.column p.row
 
-  pub transformed_within : (M : ℕ → Kind → ℕ → ℕ → ℕ) (T T' : Coefficients)
+  pub transformed_within : (M : ℕ → FilterType → ℕ → ℕ → ℕ) (T T' : Coefficients)
       → Every s (λ i k dx dy x y. Within (M i k dx dy) (T i k dx dy x y) (T' i k dx dy x y))
       → (i x y : ℕ) → Inside s i x y → Within (component_number (N'x s i) (N'y s i) (M i)) (transformed s T i x y) (transformed s T' i x y)
   unfolding transformed
@@ -175,7 +172,7 @@ module _ {s : Shape} (built : Built s) where
         sampled_near (behind x y) (transformed s T) (transformed s T') i x y p (λ k. transformed_within_places N T T' given k x y)
 
     -- with one number for each band: coefficients that differ by at most it make samples that differ by at most their component's distance
-    pub samples_of_near : (M : ℕ → Kind → ℕ → ℕ → ℕ) {n : ℕ → ℕ} → Behind Cpih (λ i. component_number (N'x s i) (N'y s i) (M i)) n
+    pub samples_of_near : (M : ℕ → FilterType → ℕ → ℕ → ℕ) {n : ℕ → ℕ} → Behind Cpih (λ i. component_number (N'x s i) (N'y s i) (M i)) n
         → (T T' : Coefficients) → Every s (λ i k dx dy x y. Within (M i k dx dy) (T i k dx dy x y) (T' i k dx dy x y))
         → (i x y : ℕ) → Inside s i x y → Near (distance Bw (B i) (n i)) (samples_of s Cpih Bw B T i x y) (samples_of s Cpih Bw B T' i x y)
     samples_of_near M behind T T' given i x y p =

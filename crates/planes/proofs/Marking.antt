@@ -14,9 +14,9 @@ use Rattle.wavelet.specs.Marks.{touched, marked}
 use Rattle.wavelet.proofs.Related.{Keeps}
 use Rattle.wavelet.proofs.Transforms.{inverse_keeps}
 use Rattle.wavelet.proofs.Marks.{inverse_shielded, inverse_raised}
-use Rattle.colour.specs.Rct.{inverse_rct, numbers_rct, Marks, marks_rct}
+use Rattle.colour.specs.Rct.{inverse_rct, numbers_rct, marks_rct}
 use Rattle.colour.specs.Table.{coloured_number, coloured_mark}
-use Rattle.colour.specs.declared.Numbers.{Numbers}
+use Rattle.colour.specs.declared.Pixel.{Pixel}
 use Rattle.colour.proofs.Table.{table_pairs, table_each, coloured_by, table_shielded, Unmarked, unmarked_rct}
 use Rattle.output.specs.Linear.{sample}
 use Rattle.layout.specs.declared.Shape.{Shape}
@@ -46,10 +46,10 @@ marked_or a b n p q z = pick (ℕ_discrete a 0) (ℕ_discrete b 0)
     pick (no d) _ = rw (some a (omega arith)) (sym (some n (p (omega arith))))
 
 -- the marks of numbers
-abbrev pub marks_of : Numbers → Marks
+abbrev pub marks_of : Pixel ℕ → Pixel Bool
 marks_of e = record { c0 = marked e.c0; c1 = marked e.c1; c2 = marked e.c2 }
 
-pub rct_raised : (e : Numbers) → marks_rct (marks_of e) ≡ marks_of (numbers_rct e)
+pub rct_raised : (e : Pixel ℕ) → marks_rct (marks_of e) ≡ marks_of (numbers_rct e)
 unfolding marks_rct numbers_rct
 rct_raised e = λ j. record { c0 = (ap (λ (b : Bool). b || marked e.c2) green ∙ more e.c2) j; c1 = green j; c2 = (ap (λ (b : Bool). b || marked e.c1) green ∙ more e.c1) j }
   where

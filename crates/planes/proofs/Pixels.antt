@@ -7,9 +7,10 @@ use native.Mathlib.Omega.{arith}
 use lib.IntN.{ℤ, pos, nat_abs}
 use lib.ListN.{length}
 use Rattle.whole.specs.Cells.{cell}
-use Rattle.colour.specs.Rct.{inverse_rct}
-use Rattle.colour.specs.Kinds.{raised_rct}
-use Rattle.colour.specs.Pass.{pixel, Stretches, Transformed, TransformedBy, HoldingNumbers as PixelNumbers}
+use Rattle.whole.specs.declared.Kind.{Kind}
+use Rattle.whole.specs.declared.Kind.TheVariants.{Samples, Numbers}
+use Rattle.colour.specs.Kinds.{rct_of}
+use Rattle.colour.specs.Pass.{pixel, Stretches, TransformedBy, HoldingNumbers as PixelNumbers}
 use Rattle.colour.specs.declared.Pixel.{Pixel}
 use Rattle.layout.specs.declared.Shape.{Shape}
 use Rattle.layout.specs.Bands.{sx, Wc}
@@ -18,14 +19,14 @@ use Rattle.planes.specs.Values.{Values, pixel_at, pixel_part}
 use Rattle.planes.specs.Places.{values_in, Inside, Ready, Holding}
 use Rattle.planes.specs.Numbers.{HoldingNumbers, coloured_of}
 use Rattle.planes.proofs.Colouring.{coloured_rct, same_width, same_area, same_place}
-use Rattle.planes.proofs.EitherKind.{coloured_samples, coloured_numbers_lem, raised_part, kept_none}
+use Rattle.planes.proofs.EitherKind.{raised_part, kept_none}
 use Rattle.planes.proofs.Stretches.{offset_below, stretches_apart, ready_one, number_one, stretch_fits, stretch_small, stretch_number}
 
 -- ---- the reversible transform
 
 module _ {s : Shape} {l : List ℤ} (ready : Ready s (2 ^ 45) l) (three : 3 ≤ s.nc) (full : (i : ℕ) → i < s.nc → sx s i ≡ 1) where
   -- the n-th pixel
-  abbrev pixels : List ℤ → ℕ → Pixel
+  abbrev pixels : List ℤ → ℕ → Pixel ℤ
   pixels m n = pixel m (start s 0 + n) (start s 1 + n) (start s 2 + n)
 
   size : (i : ℕ) → i < s.nc → area s i ≡ area s 0
@@ -76,7 +77,7 @@ module _ {s : Shape} {l : List ℤ} (ready : Ready s (2 ^ 45) l) (three : 3 ≤ 
       one i g e = omega (arith, h i g (omega arith), size i (omega arith))
 
   -- l' holds what f makes of the pixels, and so w
-  held_by : (f : Pixel → Pixel) (w : Values ℤ) → ((i x y : ℕ) → Inside s i x y → pixel_part (f (pixel_at (values_in s l) x y)) (values_in s l i x y) i ≡ w i x y)
+  held_by : (f : Pixel ℤ → Pixel ℤ) (w : Values ℤ) → ((i x y : ℕ) → Inside s i x y → pixel_part (f (pixel_at (values_in s l) x y)) (values_in s l i x y) i ≡ w i x y)
       → (l' : List ℤ) → TransformedBy f (start s 0) (start s 1) (start s 2) (area s 0) l l' → Holding s w l l'
   held_by f w is l' t =
       record {
@@ -91,9 +92,9 @@ module _ {s : Shape} {l : List ℤ} (ready : Ready s (2 ^ 45) l) (three : 3 ≤ 
           pixel_at_lem l' x y ∙ t.on (y * Wc s 0 + x) (offset_below s 0 x y p.column p.row) ∙ ap f (sym (pixel_at_lem l x y))
 
       by : (i x y : ℕ) → Inside s i x y → values_in s l' i x y ≡ pixel_part (f (pixel_at (values_in s l) x y)) (values_in s l i x y) i
-      by zero x y h = ap (λ (p : Pixel). p.c0) (pixel_made h)
-      by (suc zero) x y h = ap (λ (p : Pixel). p.c1) (pixel_made h)
-      by (suc (suc zero)) x y h = ap (λ (p : Pixel). p.c2) (pixel_made h)
+      by zero x y h = ap (λ (p : Pixel ℤ). p.c0) (pixel_made h)
+      by (suc zero) x y h = ap (λ (p : Pixel ℤ). p.c1) (pixel_made h)
+      by (suc (suc zero)) x y h = ap (λ (p : Pixel ℤ). p.c2) (pixel_made h)
       by (suc (suc (suc i))) x y h =
           let n : ℕ = y * Wc s (suc (suc (suc i))) + x in
           t.off (start s (suc (suc (suc i))) + n)
@@ -110,21 +111,17 @@ module _ {s : Shape} {l : List ℤ} (ready : Ready s (2 ^ 45) l) (three : 3 ≤ 
     unfolding samples
     rct_numbers numbers = rw (second, third, own) (holding numbers)
 
-    module _ {kind Cpih : ℕ} {l' : List ℤ} (one : Cpih ≡ 1) where
-      pub rct_held : kind ≡ 0 → Transformed 0 (2 * b) (2 * d) n l l' → Holding s (coloured_of kind Cpih (values_in s l)) l l'
-      unfolding samples
-      rct_held e t =
-          held_by inverse_rct (coloured_of kind Cpih (values_in s l))
-          (λ i x y p. sym (coloured_samples Cpih (values_in s l) i x y e ∙ coloured_rct one (values_in s l) i x y)) l' (rw (second, third, own) at t)
-
-      pub rct_numbered : kind ≢ 0 → HoldingNumbers s l → TransformedBy raised_rct 0 (2 * b) (2 * d) n l l' → Holding s (coloured_of kind Cpih (values_in s l)) l l'
-      unfolding samples
-      rct_numbered e numbers t =
-          held_by raised_rct (coloured_of kind Cpih (values_in s l))
-          (λ i x y p. raised_part one (values_in s l) i x y (numbers.number i x y p) ∙ sym (coloured_numbers_lem Cpih (values_in s l) i x y e)) l'
-          (rw (second, third, own) at t)
+    pub rct_held : {Cpih : ℕ} {l' : List ℤ} → Cpih ≡ 1 → (kind : Kind) → (kind ≡ Numbers → HoldingNumbers s l)
+        → TransformedBy (rct_of kind) 0 (2 * b) (2 * d) n l l' → Holding s (coloured_of kind Cpih (values_in s l)) l l'
+    unfolding samples
+    rct_held {Cpih} {l'} one kind numbers t = held_by (rct_of kind) (coloured_of kind Cpih (values_in s l)) (is kind numbers) l' (rw (second, third, own) at t)
+      where
+        is : (kind : Kind) → (kind ≡ Numbers → HoldingNumbers s l) → (i x y : ℕ) → Inside s i x y
+            → pixel_part (rct_of kind (pixel_at (values_in s l) x y)) (values_in s l i x y) i ≡ coloured_of kind Cpih (values_in s l) i x y
+        is Samples _ i x y p = sym (coloured_rct one (values_in s l) i x y)
+        is Numbers numbers i x y p = raised_part one (values_in s l) i x y ((numbers refl).number i x y p)
 
 -- ---- no transform
-pub none_held : {s : Shape} {Cpih : ℕ} {l : List ℤ} → Cpih ≢ 1 → (kind : ℕ) → (kind ≢ 0 → HoldingNumbers s l) → Holding s (coloured_of kind Cpih (values_in s l)) l l
+pub none_held : {s : Shape} {Cpih : ℕ} {l : List ℤ} → Cpih ≢ 1 → (kind : Kind) → (kind ≡ Numbers → HoldingNumbers s l) → Holding s (coloured_of kind Cpih (values_in s l)) l l
 none_held {s} {Cpih} {l} none kind numbers =
     record { same = refl; values = λ i x y p. sym (kept_none none kind (values_in s l) i x y (λ n. (numbers n).number i x y p)); other = λ n h. refl }

@@ -12,7 +12,7 @@ use lib.Seq.{length-take-le, take_all, take_at, get_or-append-add, drop-drop, ex
 use Rattle.whole.specs.Cells.{cell}
 use Rattle.whole.proofs.Lists.{listed_length, listed_at}
 use Rattle.wavelet.specs.Transform.{Band}
-use Rattle.output.specs.Linear.{sample, distance, Precisions, Lent, Numbers}
+use Rattle.output.specs.Linear.{sample, distance, Precisions, Lent, HoldingNumbers}
 use Rattle.layout.specs.declared.Shape.{Shape}
 use Rattle.layout.specs.Bands.{Wc, Hc}
 use Rattle.layout.specs.Built.{Built}
@@ -201,7 +201,7 @@ module _ {s : Shape} {i : ℕ} {l : List ℤ} (ready : ReadyOne s (2 ^ 60) i l) 
         small : (j : ℕ) → j < area s i → nat_abs (cell stretch j) ≤ 2 ^ 60
         small j h = rw (stretch_at j h) (stretch_small ready j h)
 
-    pub numbers_taken : NumbersOne s i l → Numbers values_part
+    pub numbers_taken : NumbersOne s i l → HoldingNumbers values_part
     numbers_taken given = rw (between (2 * b) n, before, size) (record { number = λ j h. number j (omega (arith, stretch_length)) })
       where
         number : (j : ℕ) → j < area s i → cell stretch j ≡ pos (nat_abs (cell stretch j))

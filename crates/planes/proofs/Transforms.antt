@@ -1,6 +1,5 @@
 -- Annex E for one component after the other, in place. Assumes nothing.
 use mathlib.Core.Path.{◌≡◌, refl, sym, subst, ap, ◌∙◌}
-use mathlib.Core.Logic.{◌≢◌}
 use mathlib.Core.List.{List, ◌++◌}
 use Prim.Native.Nat.{ℕ, ◌+◌, ◌*◌, ◌-◌, ◌^◌, ◌≤◌, ◌<◌}
 use native.Mathlib.Nat.{le_refl}
@@ -9,13 +8,15 @@ use native.Mathlib.Omega.{arith}
 use lib.IntN.{ℤ, pos, nat_abs}
 use lib.ListN.{length, take, drop}
 use Rattle.whole.specs.Cells.{cell}
+use Rattle.whole.specs.declared.Kind.{Kind}
+use Rattle.whole.specs.declared.Kind.TheVariants.{Samples, Numbers}
 use Rattle.wavelet.specs.Filter.{samples}
 use Rattle.wavelet.specs.Transform.{Band}
 use Rattle.wavelet.specs.Bands.{Decomposed}
 use Rattle.wavelet.specs.Distance.{numbers}
-use Rattle.wavelet.specs.Places.{sample_at, Component, Transformed}
-use Rattle.wavelet.specs.Numbers.{number_at, NumbersWithin, Numbered}
-use Rattle.wavelet.specs.Grids.{SamplesWithin}
+use Rattle.wavelet.specs.Places.{sample_at, Component}
+use Rattle.wavelet.specs.Numbers.{number_at}
+use Rattle.wavelet.specs.Kinds.{ValuesWithin, Inverted}
 use Rattle.layout.specs.declared.Shape.{Shape}
 use Rattle.layout.specs.Bands.{Wc, Hc, N'x, N'y}
 use Rattle.layout.specs.Cells.{area, samples as samples_before, start}
@@ -25,7 +26,7 @@ use Rattle.planes.specs.Values.{Values, transformed}
 use Rattle.planes.specs.Places.{values_in, Ready, Holding}
 use Rattle.planes.specs.Numbers.{sizes, NumbersOne, HoldingNumbers, filtered_of}
 use Rattle.planes.specs.Components.{ReadyOne, HoldingOne}
-use Rattle.planes.proofs.EitherKind.{inverse_placed, filtered_samples, filtered_numbers, filtered_placed}
+use Rattle.planes.proofs.EitherKind.{inverse_placed, filtered_placed}
 use Rattle.planes.proofs.Parts.{between, part_length, part_at, back_length, back_on, back_off}
 use Rattle.planes.proofs.Stretches.{component, stretch_fits, offset_below, stretches_apart}
 
@@ -42,15 +43,13 @@ module _ {s : Shape} {i : ℕ} {l : List ℤ} (ready : ReadyOne s (2 ^ 40) i l) 
   lent_values : (x y : ℕ) → x < Wc s i → y < Hc s i → sample_at (Wc s i) lent x y ≡ values_in s l i x y
   lent_values x y c r = part_at (start s i) (area s i) l fits (pos 0) (y * Wc s i + x) (offset_below s i x y c r)
 
-  lent_taken : Component (Wc s i) (Hc s i) (N'x s i) (N'y s i) (length lent) × SamplesWithin (Wc s i) (Hc s i) (2 ^ 40) lent
-  lent_taken = (
-    rw (part_length (start s i) (area s i) l fits) (component ready.built ready.there),
-    record { most = λ x y c r. rw (lent_values x y c r) (ready.small x y c r) },
-  )
+  lent_taken : Component (Wc s i) (Hc s i) (N'x s i) (N'y s i) (length lent)
+  lent_taken = rw (part_length (start s i) (area s i) l fits) (component ready.built ready.there)
 
-  lent_numbers : NumbersOne s i l → NumbersWithin (Wc s i) (Hc s i) (2 ^ 40) lent
-  lent_numbers n = record {
-    number = λ x y c r. subst (λ (z : ℤ). z ≡ pos (nat_abs z)) (sym (lent_values x y c r)) (n.number x y c r);
+  lent_within : (kind : Kind) → (kind ≡ Numbers → NumbersOne s i l) → ValuesWithin kind (Wc s i) (Hc s i) (2 ^ 40) lent
+  lent_within Samples n = record { most = λ x y c r. rw (lent_values x y c r) (ready.small x y c r) }
+  lent_within Numbers n = record {
+    number = λ x y c r. subst (λ (z : ℤ). z ≡ pos (nat_abs z)) (sym (lent_values x y c r)) ((n refl).number x y c r);
     most = λ x y c r. rw (lent_values x y c r) (ready.small x y c r);
   }
 
@@ -71,22 +70,16 @@ module _ {s : Shape} {i : ℕ} {l : List ℤ} (ready : ReadyOne s (2 ^ 40) i l) 
   parts : Decomposed (Wc s i) (Hc s i) (N'x s i) (N'y s i)
   parts = (ready.built.sampled i ready.there).parts
 
-  samples_given : {kind : ℕ} → kind ≡ 0 → (ys : List ℤ) → Transformed (Wc s i) (Hc s i) (N'x s i) (N'y s i) lent ys
+  inverted_given : (kind : Kind) (ys : List ℤ) → Inverted kind (Wc s i) (Hc s i) (N'x s i) (N'y s i) lent ys
       → HoldingOne s i (filtered_of kind s l i) l (given_back ys)
   unfolding transformed
-  samples_given {kind} e ys t =
-      lent_given (filtered_of kind s l i) ys t.same
+  inverted_given Samples ys t =
+      lent_given (filtered_of Samples s l i) ys t.same
+      (λ x y c r. t.made x y c r ∙ inverse_placed samples parts (sample_at (Wc s i) lent) (values_in s l i) lent_values x y c r)
+  inverted_given Numbers ys t =
+      lent_given (filtered_of Numbers s l i) ys t.same
       (λ x y c r. t.made x y c r
-      ∙ inverse_placed samples parts (sample_at (Wc s i) lent) (values_in s l i) lent_values x y c r
-      ∙ sym (filtered_samples s l i x y e))
-
-  numbers_given : {kind : ℕ} → kind ≢ 0 → (ys : List ℤ) → Numbered (Wc s i) (Hc s i) (N'x s i) (N'y s i) lent ys
-      → HoldingOne s i (filtered_of kind s l i) l (given_back ys)
-  numbers_given {kind} n ys t =
-      lent_given (filtered_of kind s l i) ys t.same
-      (λ x y c r. t.made x y c r
-      ∙ ap pos (inverse_placed numbers parts (number_at (Wc s i) lent) (sizes (values_in s l) i) (λ x y c r. ap nat_abs (lent_values x y c r)) x y c r)
-      ∙ sym (filtered_numbers s l i x y n))
+      ∙ ap pos (inverse_placed numbers parts (number_at (Wc s i) lent) (sizes (values_in s l) i) (λ x y c r. ap nat_abs (lent_values x y c r)) x y c r))
 
   -- the same as the code has it: from the b samples of the components before it and its own n, with r for what the layout says of it
   module _ {b n : ℕ} {r : Part} (before : b ≡ samples_before s i) (size : n ≡ area s i) (is : r ≡ component_of s i) where
@@ -96,18 +89,15 @@ module _ {s : Shape} {i : ℕ} {l : List ℤ} (ready : ReadyOne s (2 ^ 40) i l) 
     abbrev part_back : List ℤ → List ℤ
     part_back ys = take (2 * b) l ++ (ys ++ drop (2 * b + n - 2 * b) (drop (2 * b) l))
 
-    pub part_taken : Component r.w r.h s.nlx r.ny (length part) × SamplesWithin r.w r.h (2 ^ 40) part
+    pub part_taken : Component r.w r.h s.nlx r.ny (length part)
     part_taken = rw (between (2 * b) n, before, size, is) lent_taken
 
-    pub part_numbers : NumbersOne s i l → Component r.w r.h s.nlx r.ny (length part) × NumbersWithin r.w r.h (2 ^ 40) part
-    part_numbers numbers = rw (between (2 * b) n, before, size, is) (lent_taken.0, lent_numbers numbers)
+    module _ (kind : Kind) where
+      pub part_within : (kind ≡ Numbers → NumbersOne s i l) → ValuesWithin kind r.w r.h (2 ^ 40) part
+      part_within numbers = rw (between (2 * b) n, before, size, is) (lent_within kind numbers)
 
-    module _ {kind : ℕ} {ys : List ℤ} where
-      pub part_given : kind ≡ 0 → Transformed r.w r.h s.nlx r.ny part ys → HoldingOne s i (filtered_of kind s l i) l (part_back ys)
-      part_given e t = rw (between (2 * b) n, before, size) (samples_given e ys (rw (between (2 * b) n, before, size, is) at t))
-
-      pub part_numbered : kind ≢ 0 → Numbered r.w r.h s.nlx r.ny part ys → HoldingOne s i (filtered_of kind s l i) l (part_back ys)
-      part_numbered e t = rw (between (2 * b) n, before, size) (numbers_given e ys (rw (between (2 * b) n, before, size, is) at t))
+      pub part_given : (ys : List ℤ) → Inverted kind r.w r.h s.nlx r.ny part ys → HoldingOne s i (filtered_of kind s l i) l (part_back ys)
+      part_given ys t = rw (between (2 * b) n, before, size) (inverted_given kind ys (rw (between (2 * b) n, before, size, is) at t))
 
 -- ---- the first k components
 
@@ -116,9 +106,6 @@ pub record HoldingFirst (s : Shape) (k : ℕ) (v : Values ℤ) (l l' : List ℤ)
   pub same : length l' ≡ length l
   pub values : (i x y : ℕ) → i < k → x < Wc s i → y < Hc s i → values_in s l' i x y ≡ v i x y
   pub other : (n : ℕ) → ((i : ℕ) → i < k → start s i ≤ n → start s i + area s i ≤ n) → cell l' n ≡ cell l n
-
-pub first_none : {s : Shape} {v : Values ℤ} {l : List ℤ} → HoldingFirst s 0 v l l
-first_none = record { same = refl; values = λ i x y h. absurd (omega arith); other = λ n h. refl }
 
 module _ {s : Shape} {k : ℕ} {v : Values ℤ} {l l' : List ℤ} (f : HoldingFirst s k v l l') where
   -- a later component is as it was
@@ -155,7 +142,7 @@ module _ {s : Shape} {k : ℕ} {v : Values ℤ} {l l' : List ℤ} (f : HoldingFi
 
 -- ---- a turn
 
-module _ (kind : ℕ) {s : Shape} {k : ℕ} {l l' : List ℤ} (ready : Ready s (2 ^ 40) l) (f : HoldingFirst s k (filtered_of kind s l) l l') (h : k < s.nc)
+module _ (kind : Kind) {s : Shape} {k : ℕ} {l l' : List ℤ} (ready : Ready s (2 ^ 40) l) (f : HoldingFirst s k (filtered_of kind s l) l l') (h : k < s.nc)
   where
     still : (x y : ℕ) → x < Wc s k → y < Hc s k → values_in s l' k x y ≡ values_in s l k x y
     still x y c r = first_later f k x y (le_refl k) c r

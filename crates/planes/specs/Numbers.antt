@@ -1,13 +1,15 @@
 -- Document 01's distance rule, place by place: distance numbers go the way of the values that they belong to, rules 2 to 5 from a number for each coefficient to a
 -- distance for each sample. And the numbers as the work cells hold them.
-use Rattle.std.specs.Prelude.{◌≡◌, cond, List, ℕ, ◌<◌, eqb, ℤ, pos, nat_abs}
+use Rattle.std.specs.Prelude.{◌≡◌, List, ℕ, ◌<◌, ℤ, pos, nat_abs}
+use Rattle.whole.specs.declared.Kind.{Kind}
+use Rattle.whole.specs.declared.Kind.TheVariants.{Samples, Numbers}
 use Rattle.wavelet.specs.Distance.{numbers}
 use Rattle.wavelet.specs.Places.{bands}
 use Rattle.colour.specs.Table.{coloured_number}
-use Rattle.output.specs.Linear.{distance, output_of}
+use Rattle.output.specs.Linear.{distance}
 use Rattle.layout.specs.declared.Shape.{Shape}
 use Rattle.layout.specs.Bands.{Wc, Hc}
-use Rattle.planes.specs.Values.{Bands, Values, filtered, transformed, coloured}
+use Rattle.planes.specs.Values.{Bands, Values, filtered, transformed, coloured, sampled}
 use Rattle.planes.specs.Places.{values_in, coefficients_in, Inside}
 
 -- rule 2: a value's number, from a number for each coefficient
@@ -50,14 +52,19 @@ pub record NumbersOne (s : Shape) (i : ℕ) (l : List ℤ) : Type 0 where
 pub record HoldingNumbers (s : Shape) (l : List ℤ) : Type 0 where
   pub number : (i x y : ℕ) → Inside s i x y → values_in s l i x y ≡ pos (nat_abs (values_in s l i x y))
 
--- ---- the kinds of value that the code sends through the annexes, each by its number: 0 is samples, any other is numbers
+-- ---- what the annexes make of each kind of value
 
-unfoldable pub filtered_of : ℕ → Shape → List ℤ → Values ℤ
-filtered_of kind s l i x y = cond (eqb kind 0) (transformed s (coefficients_in s l) i x y) (held (numbered s (numbers_in s l)) i x y)
+-- Annex E, of what stands in the work cells
+abbrev pub filtered_of : Kind → Shape → List ℤ → Values ℤ
+filtered_of Samples s l = transformed s (coefficients_in s l)
+filtered_of Numbers s l = held (numbered s (numbers_in s l))
 
-unfoldable pub coloured_of : ℕ → ℕ → Values ℤ → Values ℤ
-coloured_of kind Cpih v i x y = cond (eqb kind 0) (coloured Cpih v i x y) (held (coloured_numbers Cpih (sizes v)) i x y)
+-- Annex F
+abbrev pub coloured_of : Kind → ℕ → Values ℤ → Values ℤ
+coloured_of Samples Cpih v = coloured Cpih v
+coloured_of Numbers Cpih v = held (coloured_numbers Cpih (sizes v))
 
 -- Annex G, with each component's precision
-abbrev pub outputs_of : ℕ → ℕ → (ℕ → ℕ) → Values ℤ → Values ℕ
-outputs_of kind Bw B v i x y = output_of kind Bw (B i) (v i x y)
+abbrev pub outputs_of : Kind → ℕ → (ℕ → ℕ) → Values ℤ → Values ℕ
+outputs_of Samples Bw B v = sampled Bw B v
+outputs_of Numbers Bw B v = measured Bw B (sizes v)

@@ -36,17 +36,17 @@ unfoldable pub transformed : Shape → Coefficients → Values ℤ
 transformed s T i = filtered samples s T i
 
 -- the pixel in column x and row y
-abbrev pub pixel_at : Values ℤ → ℕ → ℕ → Pixel
+abbrev pub pixel_at : Values ℤ → ℕ → ℕ → Pixel ℤ
 pixel_at v x y = record { c0 = v 0 x y; c1 = v 1 x y; c2 = v 2 x y }
 
 -- component i of a pixel; a fourth component takes no part
-abbrev pub pixel_part : Pixel → ℤ → ℕ → ℤ
+abbrev pub pixel_part : Pixel ℤ → ℤ → ℕ → ℤ
 pixel_part p = part_of p.c0 p.c1 p.c2
 
 -- Annex F, Tables F.1 and F.2
 unfoldable pub coloured : ℕ → Values ℤ → Values ℤ
 coloured Cpih v i x y =
-    let o : Pixel = inverse_rct (pixel_at v x y) in
+    let o : Pixel ℤ = inverse_rct (pixel_at v x y) in
     table_F1 Cpih o.c0 o.c1 o.c2 (λ j. v j x y) i
 
 -- G.3, with each component's precision

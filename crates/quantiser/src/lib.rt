@@ -2,7 +2,7 @@
 #![tactic(auto)]
 
 ghost use Rattle.std.specs.Prelude.{◌≡◌, ◌≤◌, ◌<◌, ◌^◌, nat_abs};
-ghost use Rattle.whole.specs.Numbers.{with_sign};
+ghost use Rattle.whole.specs.Numbers.{signed};
 ghost use Rattle.quantiser.specs.Inverse.{deadzone, uniform, inverse, coefficient_of, scaled, Carried};
 ghost use Rattle.quantiser.specs.Distance.{band_number};
 
@@ -40,21 +40,13 @@ pub fn size_by(uniform: bool, m: u64, t: u64, v: u64) -> u64
     }
 }
 
-// The size of a whole number.
-fn magnitude(x: i64) -> u64
-    requires { nat_abs x < 2 ^ 63 }
-    ensures { result ≡ nat_abs x }
+// A size with its sign: an index, or a coefficient.
+pub fn signed(negative: bool, size: u64) -> i64
+    requires { size < 2 ^ 63 }
+    ensures { result ≡ signed negative size }
 {
-    if x < 0 { (-x) as u64 } else { x as u64 }
-}
-
-// The size n with the sign of x.
-fn with_sign(x: i64, n: u64) -> i64
-    requires { n < 2 ^ 63 }
-    ensures { result ≡ with_sign x n }
-{
-    let s = n as i64;
-    if x < 0 { -s } else { s }
+    let n = size as i64;
+    if negative { -n } else { n }
 }
 
 // The coefficient of a signed index.
@@ -62,7 +54,7 @@ fn coefficient(uniform: bool, m: u64, t: u64, index: i64) -> i64
     requires { Carried m t (nat_abs index) }
     ensures { result ≡ coefficient_of uniform m t index }
 {
-    with_sign(index, size_by(uniform, m, t, magnitude(index)))
+    signed(index < 0, size_by(uniform, m, t, index.unsigned_abs()))
 }
 
 // The same on the scale of the wavelet, which has fq bits more behind the point.

@@ -1,4 +1,5 @@
 -- What the slices leave behind an accepted header, in either mode. Assumes nothing.
+use Rattle.std.specs.Prelude.{Ok, Err}
 use mathlib.Core.Path.{◌≡◌, refl, sym, ap, ◌∙◌, subst}
 use mathlib.Core.Bool.{Bool, true, false, cond}
 use mathlib.Core.List.{List, [], ◌∷◌, ◌++◌}
@@ -9,8 +10,7 @@ use lib.ListN.{length, get_or, replicate, length-replicate, get_or-replicate}
 use lib.Pow.{pow_mono}
 use Rattle.whole.specs.Cells.{cell, Bounded}
 use Rattle.whole.proofs.Lists.{replicated}
-use Rattle.rows.specs.declared.Verdict.{Verdict}
-use Rattle.rows.specs.declared.Verdict.TheVariants.{Fine, Refused}
+use Rattle.rows.specs.Rows.{Verdict}
 use Rattle.pieces.specs.declared.Bytes.{Bytes}
 use Rattle.pieces.specs.Pieces.{Markers, bytes_of, bytes_by, plus, all}
 use Rattle.pieces.proofs.Laws.{bytes_append, piece_once}
@@ -139,11 +139,11 @@ module _ {s : List ℕ} {h : Header} (o : Opened s h) (damaged : Bool) {cells : 
     where
       by : (v : Verdict) → r.bytes ≡ bytes_by v (bytes_of (stream_pieces_by s (setting_of h) damaged (begun h)))
           → bytes_by v b ≡ bytes_by v (bytes_of (header_pieces s ++ stream_pieces_by s (setting_of h) damaged (begun h)))
-      by Fine q =
+      by (Ok _) q =
           k
           ∙ (λ i. plus (sym o.bytes i) (q i))
           ∙ sym (bytes_append (header_pieces s) (stream_pieces_by s (setting_of h) damaged (begun h)))
-      by (Refused x) q = refl
+      by (Err x) q = refl
 
 module _ {s : List ℕ} {h : Header} (o : Opened s h) (damaged : Bool) {v : Verdict} {at : ℕ} {t : List ℕ} {w' : List ℤ} (p : decoded_by s h damaged ≡ (v, (at, t, w'))) where
   pub shown_of : (a : ℕ) → a ≡ N h → Decoded h a t w'
@@ -162,14 +162,14 @@ module _ {s : List ℕ} {h : Header} (o : Opened s h) (damaged : Bool) {v : Verd
       where
         by : (v : Verdict) (damaged : Bool) → decoded_by s h damaged ≡ (v, (at, t, w')) → Shows v h t b a w' r a' w''
             → filled_by v (cond damaged (marks_from h w'') []) m ≡ filled_by v (cond damaged (lost_marks s h) []) m
-        by (Refused k) damaged p q = refl
-        by Fine false p q = refl
-        by Fine true p q = marks_told o (λ i. (p i).0) w'' (λ n far. q.other n far ∙ (λ i. cell (sym p i).1.2 n))
+        by (Err k) damaged p q = refl
+        by (Ok _) false p q = refl
+        by (Ok _) true p q = marks_told o (λ i. (p i).0) w'' (λ n far. q.other n far ∙ (λ i. cell (sym p i).1.2 n))
 
     -- the totals count where the page is read
     page_bytes : (v : Verdict) (b' : Bytes) → bytes_by v b ≡ bytes_by v b' → page_by v h (distances_from h t) b ≡ page_by v h (distances_from h t) b'
-    page_bytes Fine b' e = ap (page_read h (distances_from h t)) e
-    page_bytes (Refused k) b' e = refl
+    page_bytes (Ok _) b' e = ap (page_read h (distances_from h t)) e
+    page_bytes (Err k) b' e = refl
 
     -- where the marks are made
     module _ (placed : Bool) {w''' : List ℤ} {m' : List ℕ} (k : MarkedIn v damaged h w'' w''' m m') where

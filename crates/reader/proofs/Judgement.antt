@@ -1,14 +1,13 @@
 -- A page that is judged: what each way through leaves, and how its verdict is that of the readings. Assumes nothing.
+use Rattle.std.specs.Prelude.{Ok, Err}
 use mathlib.Core.Path.{◌≡◌, refl, ◌∙◌}
 use mathlib.Core.Bool.{Bool, false}
 use mathlib.Core.List.{List}
 use Prim.Native.Nat.{ℕ, ◌*◌}
 use lib.IntN.{ℤ}
 use lib.ListN.{length, replicate}
-use Rattle.rows.specs.Rows.{first, answer, place_of}
+use Rattle.rows.specs.Rows.{first, answer, place_of, Fine, Refused, Verdict}
 use Rattle.rows.specs.declared.Check.{Check}
-use Rattle.rows.specs.declared.Verdict.{Verdict}
-use Rattle.rows.specs.declared.Verdict.TheVariants.{Fine, Refused}
 use Rattle.pieces.specs.declared.Bytes.{Bytes}
 use Rattle.header.specs.Header.{reading_of}
 use Rattle.header.specs.declared.header.Header.{Header}
@@ -61,8 +60,8 @@ judged_tops s h = refl
 -- ---- number and place of the record are those of the verdict, whichever it is
 
 pub answered : (v : Verdict) (h : Header) (d : List ℕ) (b : Bytes) → ((page_by v h d b).answer ≡ answer v) × ((page_by v h d b).place ≡ place_of v h.picture.lcod)
-answered Fine h d b = (refl, refl)
-answered (Refused c) h d b = (refl, refl)
+answered (Ok _) h d b = (refl, refl)
+answered (Err c) h d b = (refl, refl)
 
 pub judged_answer : (damaged placed : Bool) (s : List ℕ) (a w m d : ℕ)
     → ((page_with damaged placed s a w m d).answer ≡ answer (verdict_by damaged placed s a w m d))

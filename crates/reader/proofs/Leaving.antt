@@ -1,4 +1,5 @@
 -- What a reading leaves in the buffers, by each way through it. Assumes nothing.
+use Rattle.std.specs.Prelude.{Ok, Err}
 use mathlib.Core.Path.{◌≡◌, refl, sym, ap, ◌∙◌}
 use mathlib.Core.Bool.{Bool, true, false, cond}
 use mathlib.Core.List.{List, [], ◌∷◌, ◌++◌}
@@ -7,14 +8,12 @@ use native.Mathlib.Omega.{arith}
 use lib.IntN.{ℤ, pos}
 use lib.ListN.{length, take, drop, replicate, take-append-drop}
 use lib.Seq.{length-take-le}
-use Rattle.rows.specs.Rows.{check, ample, first, then}
+use Rattle.rows.specs.Rows.{check, ample, first, then, Fine, Refused, Verdict}
 use Rattle.rows.proofs.Tables.{append_fine, held}
 use Rattle.rows.specs.declared.Check.{Check}
 use Rattle.rows.specs.declared.Row.TheVariants.{Lent}
 use Rattle.rows.specs.declared.Field.{Field}
 use Rattle.rows.specs.declared.Field.TheVariants.{Marks, Distances}
-use Rattle.rows.specs.declared.Verdict.{Verdict}
-use Rattle.rows.specs.declared.Verdict.TheVariants.{Fine, Refused}
 use Rattle.header.specs.Header.{reading_of}
 use Rattle.header.specs.declared.header.Header.{Header}
 use Rattle.shapes.specs.Shapes.{shape_of}
@@ -74,8 +73,8 @@ asked_length true new e f = e ∙ sym f
 -- ---- the parts lent on, and the rest
 
 cells_back : (v : Verdict) (new a : List ℕ) (n : ℕ) → length new ≡ n → filled_by v new (take n a) ++ drop n a ≡ samples_by v new a
-cells_back Fine new a n e = ap (λ (m : ℕ). new ++ drop m a) (sym e)
-cells_back (Refused k) new a n e = take-append-drop n a
+cells_back (Ok _) new a n e = ap (λ (m : ℕ). new ++ drop m a) (sym e)
+cells_back (Err k) new a n e = take-append-drop n a
 
 pub work_back : (w : List ℤ) {n m : ℕ} {w₁ : List ℤ} → n ≡ m → 2 * n ≤ length w → w₁ ≡ replicate (length (take (2 * n) w)) (pos 0) → w₁ ++ drop (2 * n) w ≡ work_by Fine (2 * m) w
 work_back w {n} e room zeros =
@@ -123,8 +122,8 @@ module _ {damaged placed : Bool} {s a : List ℕ} {w : List ℤ} {m d : List ℕ
 -- ---- a reading that is lent no marks, or no plane of distances
 
 none_left : (v : Verdict) → [] ≡ samples_by v [] []
-none_left Fine = refl
-none_left (Refused k) = refl
+none_left (Ok _) = refl
+none_left (Err k) = refl
 
 pub reads_plain : {s a a' : List ℕ} {w w' : List ℤ} {m' d' : List ℕ} {r : Page} → ReadsBy false false s a w [] [] r a' w' m' d' → Reads s a w r a' w'
 unfolding lent_verdict_by verdict_by decoded_by stream_by lent_verdict verdict decoded stream pieces_in stream_pieces_by pieces stream_pieces

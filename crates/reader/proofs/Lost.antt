@@ -9,7 +9,7 @@ use lib.IntN.{ℤ, pos, nat_abs}
 use lib.ListN.{length-replicate}
 use Rattle.whole.specs.Cells.{cell}
 use Rattle.whole.proofs.Lists.{replicated}
-use Rattle.rows.specs.declared.Verdict.TheVariants.{Fine}
+use Rattle.rows.specs.Rows.{Fine}
 use Rattle.wavelet.specs.Transform.{Kind}
 use Rattle.wavelet.specs.Bands.{τy, Coefficient}
 use Rattle.wavelet.specs.Places.{place}

@@ -7,7 +7,7 @@ use native.Mathlib.Omega.{arith}
 use lib.IntN.{ℤ, pos, negsuc}
 use lib.ListN.{length}
 use Rattle.whole.specs.Cells.{cell}
-use Rattle.rows.specs.declared.Verdict.TheVariants.{Fine}
+use Rattle.rows.specs.Rows.{Fine}
 use Rattle.layout.specs.declared.Shape.{Shape}
 use Rattle.layout.specs.Built.{Built}
 use Rattle.layout.specs.Bands.{Wc}

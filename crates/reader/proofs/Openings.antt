@@ -9,7 +9,7 @@ use borrow.Author.Tests.{lt-ltb, le-ltb, eqb-true}
 use lib.Dec.{ltb, leb, eqb}
 use lib.ListN.{get_or}
 use Rattle.bits.specs.Packet.{short_widths, long_widths, Fit}
-use Rattle.rows.specs.declared.Verdict.TheVariants.{Fine}
+use Rattle.rows.specs.Rows.{Fine}
 use Rattle.picture.specs.Picture.{fq_for}
 use Rattle.output.specs.Linear.{Precisions}
 use Rattle.layout.specs.Sizes.{IsComponent}

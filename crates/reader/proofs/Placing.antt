@@ -6,7 +6,7 @@ use Prim.Native.Nat.{ℕ, ◌*◌, ◌-◌, ◌^◌, ◌≤◌}
 use native.Mathlib.Omega.{arith}
 use lib.IntN.{ℤ, pos, nat_abs}
 use lib.ListN.{length}
-use Rattle.rows.specs.declared.Verdict.TheVariants.{Fine}
+use Rattle.rows.specs.Rows.{Fine}
 use Rattle.output.specs.Linear.{distance, lost_distance}
 use Rattle.layout.specs.Built.{Built}
 use Rattle.header.specs.declared.header.Header.{Header}

@@ -3,8 +3,7 @@ use mathlib.Core.Path.{◌≡◌, refl, ◌∙◌}
 use mathlib.Core.List.{List}
 use Prim.Native.Nat.{ℕ, ◌^◌}
 use lib.IntN.{ℤ}
-use Rattle.rows.specs.declared.Verdict.TheVariants.{Fine, Refused}
-use Rattle.rows.specs.declared.Verdict.{Verdict}
+use Rattle.rows.specs.Rows.{Fine, Refused, Verdict}
 use Rattle.rows.specs.declared.Check.{Check}
 use Rattle.layout.specs.declared.Shape.{Shape}
 use Rattle.layout.specs.Built.{Built}

@@ -1,6 +1,6 @@
 -- What stands behind an accepted header: coefficients, each band's largest T, samples and distances.
 use Rattle.std.specs.Prelude.{List, ◌++◌, ℕ, ◌*◌, ℤ, pos, replicate}
-use Rattle.rows.specs.declared.Verdict.{Verdict}
+use Rattle.rows.specs.Rows.{Verdict}
 use Rattle.pieces.specs.Pieces.{Piece}
 use Rattle.header.specs.Pieces.{header_pieces}
 use Rattle.header.specs.declared.header.Header.{Header}

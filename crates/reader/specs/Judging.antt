@@ -1,8 +1,6 @@
 -- What a reading finds before it shows anything, for each of the four ways of reading: samples, marks and distances count by their number alone.
-use Rattle.std.specs.Prelude.{Bool, List, ◌≡◌, ℕ, ◌*◌, ℤ, length, replicate}
-use Rattle.rows.specs.Rows.{then}
-use Rattle.rows.specs.declared.Verdict.{Verdict}
-use Rattle.rows.specs.declared.Verdict.TheVariants.{Fine, Refused}
+use Rattle.std.specs.Prelude.{Bool, List, ◌≡◌, ℕ, ◌*◌, ℤ, length, replicate, Ok, Err}
+use Rattle.rows.specs.Rows.{then, Verdict}
 use Rattle.header.specs.declared.header.Header.{Header}
 use Rattle.reader.specs.declared.judging.Judged.{Judged}
 use Rattle.reader.specs.Settings.{N}
@@ -12,8 +10,8 @@ use Rattle.reader.specs.Places.{lent_verdict_by, verdict_by}
 
 -- what is known of the bands' largest T: nothing until row 5 has passed
 abbrev pub tops_by : Verdict → List ℕ → List ℕ
-tops_by Fine tops = tops
-tops_by (Refused c) tops = replicate 40 0
+tops_by (Ok _) tops = tops
+tops_by (Err c) tops = replicate 40 0
 
 pub record Judges (damaged placed : Bool) (s : List ℕ) (a : ℕ) (w : List ℤ) (m d : ℕ) (r : Judged) (w' : List ℤ) : Type 0 where
   -- the verdict of a reading with these cells

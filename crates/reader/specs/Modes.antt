@@ -1,10 +1,9 @@
 -- The two modes of reading, and what each leaves: a page that is whole or refused, and document 02's C-15, in which spoilt slices are lost and marked.
 use Rattle.std.specs.Prelude.{Bool, true, cond, List, [], ◌∷◌, ◌++◌, ◌≡◌, ℕ, ◌*◌, ℤ, length}
-use Rattle.rows.specs.Rows.{check, ample, first, then}
+use Rattle.rows.specs.Rows.{check, ample, first, then, Verdict}
 use Rattle.rows.specs.declared.Check.{Check}
 use Rattle.rows.specs.declared.Row.TheVariants.{Lent}
 use Rattle.rows.specs.declared.Field.TheVariants.{Marks}
-use Rattle.rows.specs.declared.Verdict.{Verdict}
 use Rattle.layout.specs.Precincts.{slice_with}
 use Rattle.pieces.specs.Pieces.{Piece, bytes_of}
 use Rattle.header.specs.Header.{reading_of}

@@ -1,8 +1,6 @@
 -- The page: the answer, its record, and each lent cell, for every stream and every pair of lent buffers.
-use Rattle.std.specs.Prelude.{false, List, ◌++◌, ◌≡◌, ℕ, ◌*◌, ℤ, pos, length, drop, replicate}
-use Rattle.rows.specs.Rows.{first, then, answer, place_of}
-use Rattle.rows.specs.declared.Verdict.{Verdict}
-use Rattle.rows.specs.declared.Verdict.TheVariants.{Fine, Refused}
+use Rattle.std.specs.Prelude.{false, List, ◌++◌, ◌≡◌, ℕ, ◌*◌, ℤ, pos, length, drop, replicate, Ok, Err}
+use Rattle.rows.specs.Rows.{first, then, answer, place_of, Refused, Verdict}
 use Rattle.layout.specs.Bands.{Wc, Hc}
 use Rattle.header.specs.Header.{reading_of}
 use Rattle.header.specs.declared.header.Header.{Header}
@@ -60,8 +58,8 @@ page_refused v =
     }
 
 abbrev pub page_by : Verdict → Header → List ℕ → Bytes → Page
-page_by Fine h distance bytes = page_read h distance bytes
-page_by (Refused c) h distance bytes = page_refused (Refused c)
+page_by (Ok _) h distance bytes = page_read h distance bytes
+page_by (Err c) h distance bytes = page_refused (Refused c)
 
 -- the record of a reading of s
 abbrev pub page_of : List ℕ → ℕ → ℕ → Page
@@ -71,13 +69,13 @@ page_of s a w = page_by (verdict s a w) (header_of s) (distances_from (header_of
 
 -- 'on success cells past N keep their values; on refusal all do'
 abbrev pub samples_by : Verdict → List ℕ → List ℕ → List ℕ
-samples_by Fine new a = new ++ drop (length new) a
-samples_by (Refused c) new a = a
+samples_by (Ok _) new a = new ++ drop (length new) a
+samples_by (Err c) new a = a
 
 -- 'until row 5 has passed the work buffer is unchanged. From then on every answer returns its first 2N cells as 0 and the rest unchanged'
 abbrev pub work_by : Verdict → ℕ → List ℤ → List ℤ
-work_by Fine n w = replicate n (pos 0) ++ drop n w
-work_by (Refused c) n w = w
+work_by (Ok _) n w = replicate n (pos 0) ++ drop n w
+work_by (Err c) n w = w
 
 -- ---- what is left by a reading of the stream s, of the header h: `lent` is the verdict by row 5, and `all` that of the whole stream. The samples a become
 -- a', the work cells w become w'

@@ -1,10 +1,9 @@
 -- Document 02, C-22: a distance for each sample, by document 01's rule taken place by place, in a plane that is lent. The rest is left as without the plane.
 use Rattle.std.specs.Prelude.{Bool, true, false, cond, ◌&&◌, List, [], ◌∷◌, ◌++◌, ◌≡◌, ℕ, ◌-◌, ◌^◌, ℤ, length}
-use Rattle.rows.specs.Rows.{check, ample, first, then}
+use Rattle.rows.specs.Rows.{check, ample, first, then, Verdict}
 use Rattle.rows.specs.declared.Check.{Check}
 use Rattle.rows.specs.declared.Row.TheVariants.{Lent}
 use Rattle.rows.specs.declared.Field.TheVariants.{Distances}
-use Rattle.rows.specs.declared.Verdict.{Verdict}
 use Rattle.pieces.specs.Pieces.{bytes_of}
 use Rattle.header.specs.Header.{reading_of}
 use Rattle.header.specs.declared.header.Header.{Header}

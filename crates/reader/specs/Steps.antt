@@ -1,7 +1,6 @@
 -- What the steps of a reading ask and answer.
-use Rattle.std.specs.Prelude.{Bool, true, false, cond, List, [], ◌∷◌, ◌≡◌, ℕ, ◌+◌, ◌*◌, ◌^◌, ◌≤◌, ◌<◌, ℤ, pos, negsuc, length, get_or, replicate}
-use Rattle.rows.specs.declared.Verdict.{Verdict}
-use Rattle.rows.specs.declared.Verdict.TheVariants.{Fine, Refused}
+use Rattle.std.specs.Prelude.{Bool, true, false, cond, List, [], ◌∷◌, ◌≡◌, ℕ, ◌+◌, ◌*◌, ◌^◌, ◌≤◌, ◌<◌, ℤ, pos, negsuc, length, get_or, replicate, Ok, Err}
+use Rattle.rows.specs.Rows.{Fine, Verdict}
 use Rattle.whole.specs.Cells.{cell}
 use Rattle.pieces.specs.declared.Bytes.{Bytes}
 use Rattle.pieces.specs.Pieces.{Markers, bytes_of}
@@ -79,8 +78,8 @@ Sliced damaged s h = Streamed (decoded_by s h damaged) (stream_pieces_by s (sett
 
 -- where N samples are lent, they are filled or left
 abbrev pub filled_by : Verdict → List ℕ → List ℕ → List ℕ
-filled_by Fine new a = new
-filled_by (Refused c) new a = a
+filled_by (Ok _) new a = new
+filled_by (Err c) new a = a
 
 -- by the verdict v of what was decoded
 pub record Shows (v : Verdict) (h : Header) (tops : List ℕ) (bytes : Bytes) (a : List ℕ) (w : List ℤ) (r : Page) (a' : List ℕ) (w' : List ℤ) : Type 0 where

@@ -1,6 +1,6 @@
 // Judges a page without reading it: the verdict with its check, the header, and each band's largest T. No sample is written, so none has to be lent.
 ghost use Rattle.std.specs.Prelude.{◌≡◌, ◌*◌, ◌^◌, ◌≤◌, pos, length, replicate};
-ghost use Rattle.rows.specs.declared.Verdict.TheVariants.{Fine};
+ghost use Rattle.rows.specs.Rows.{Fine};
 ghost use Rattle.header.specs.Header.{reading_of};
 ghost use Rattle.reader.specs.Settings.{N};
 ghost use Rattle.reader.specs.Page.{work_by};
@@ -49,11 +49,11 @@ fn judge_lent(
     ensures { JudgedBehind damaged stream.now h v result × (work.new ≡ work_by v (2 * N h) work.old) }
 {
     match v {
-        Verdict::Fine => {
+        Ok(()) => {
             let cells = 2 * n;
             judge_slices(damaged, stream, &mut work[..cells], h)
         }
-        Verdict::Refused(_) => Judged {
+        Err(_) => Judged {
             verdict: v,
             header: h,
             tops: [0; 40],
@@ -61,9 +61,8 @@ fn judge_lent(
     }
 }
 
-// Behind a header that is accepted, or refused.
-fn judge_by(
-    v: Verdict,
+// Behind an accepted header.
+fn judge_behind(
     damaged: bool,
     placed: bool,
     stream: &[u8],
@@ -73,22 +72,13 @@ fn judge_by(
     distances: usize,
     h: Header,
 ) -> Judged
-    requires { (v ≡ (reading_of stream.now).verdict) × (h ≡ (reading_of stream.now).header) }
+    requires { ((reading_of stream.now).verdict ≡ Fine) × (h ≡ (reading_of stream.now).header) }
     ensures { Judges damaged placed stream.now samples work.old marks distances result work.new }
 {
-    match v {
-        Verdict::Fine => {
-            let s = shapes::shape_of(h);
-            let n = samples_before(s, s.nc);
-            let w = room_row(damaged, placed, h, n, samples, work.len(), marks, distances);
-            judge_lent(w, damaged, stream, work, h, n)
-        }
-        Verdict::Refused(_) => Judged {
-            verdict: v,
-            header: h,
-            tops: [0; 40],
-        },
-    }
+    let s = shapes::shape_of(h);
+    let n = samples_before(s, s.nc);
+    let w = room_row(damaged, placed, h, n, samples, work.len(), marks, distances);
+    judge_lent(w, damaged, stream, work, h, n)
 }
 
 // Judges a page as `read`, `read_damaged`, `read_places` and `read_damaged_places` do, by `damaged` and `placed`. Samples, marks and distances are lent by
@@ -104,10 +94,12 @@ pub fn judge(
 ) -> Judged
     ensures { Judges damaged placed stream.now samples work.old marks distances result work.new }
 {
-    let r = header::read(stream);
-    let v = r.verdict;
-    let h = r.header;
-    judge_by(
-        v, damaged, placed, stream, samples, work, marks, distances, h,
-    )
+    match header::read(stream) {
+        Ok(h) => judge_behind(damaged, placed, stream, samples, work, marks, distances, h),
+        Err(c) => Judged {
+            verdict: Err(c),
+            header: Header::none(),
+            tops: [0; 40],
+        },
+    }
 }

@@ -7,9 +7,8 @@ mod records;
 pub mod settings;
 
 ghost use Rattle.std.specs.Prelude.{◌≡◌, true, cond, [], ◌∷◌, ◌*◌, ◌^◌, ◌≤◌, pos, length, replicate};
-ghost use Rattle.rows.specs.Rows.{check, ample, first, then};
+ghost use Rattle.rows.specs.Rows.{check, ample, first, then, Fine};
 ghost use Rattle.rows.specs.declared.Row.TheVariants.{Lent};
-ghost use Rattle.rows.specs.declared.Verdict.TheVariants.{Fine};
 ghost use Rattle.header.specs.Header.{reading_of};
 ghost use Rattle.reader.specs.Settings.{N};
 ghost use Rattle.reader.specs.Page.{Reads};
@@ -26,17 +25,13 @@ use layout::lines::samples_before;
 use pieces::Bytes;
 use rows::{AMPLE, Check, Field, Row, Verdict};
 use slices::Reading;
+use whole::Kind;
 
 // All cells 0.
 pub(crate) fn clear(cells: &mut [i64])
     ensures { cells.new ≡ replicate (length cells.old) (pos 0) }
 {
-    let n = cells.len();
-    let mut i = 0;
-    while i < n {
-        cells[i] = 0;
-        i += 1;
-    }
+    cells.fill(0);
 }
 
 // Samples and distances of a page whose slices are decoded into the cells.
@@ -47,8 +42,8 @@ fn show(samples: &mut [u16], cells: &mut [i64], h: Header, tops: [usize; 40], by
     let s = shapes::shape_of(h);
     let p = h.picture;
     let depth = h.depth;
-    planes::values(cells, s, p.cpih);
-    planes::samples(cells, samples, s, p.bw, depth);
+    planes::values(cells, Kind::Samples, s, p.cpih);
+    planes::outputs(cells, samples, Kind::Samples, s, p.bw, depth);
     let d = distances::distances(s, p.fq, p.cpih, p.bw, depth, tops);
     shown(h, d, bytes)
 }
@@ -66,8 +61,8 @@ fn show_by(
     ensures { Shows v h tops bytes samples.old cells.old result samples.new cells.new }
 {
     match v {
-        Verdict::Fine => show(samples, cells, h, tops, bytes),
-        Verdict::Refused(_) => refused(v),
+        Ok(()) => show(samples, cells, h, tops, bytes),
+        Err(_) => refused(v),
     }
 }
 
@@ -79,7 +74,7 @@ fn mark(cells: &mut [i64], marks: &mut [u8], h: Header)
     let s = shapes::shape_of(h);
     let p = h.picture;
     lost_numbers(cells, s);
-    planes::numbers(cells, s, p.cpih);
+    planes::values(cells, Kind::Numbers, s, p.cpih);
     planes::marks(cells, marks, s);
 }
 
@@ -99,8 +94,8 @@ fn mark_by(v: Verdict, damaged: bool, cells: &mut [i64], marks: &mut [u8], h: He
     ensures { MarkedIn v damaged h cells.old cells.new marks.old marks.new }
 {
     match v {
-        Verdict::Fine => mark_in(damaged, cells, marks, h),
-        Verdict::Refused(_) => {}
+        Ok(()) => mark_in(damaged, cells, marks, h),
+        Err(_) => {}
     }
 }
 
@@ -114,8 +109,8 @@ fn place(stream: &[u8], cells: &mut [i64], distances: &mut [u16], h: Header)
     let p = h.picture;
     let depth = h.depth;
     places::fill(stream, cells, c, h.slice);
-    planes::numbers(cells, s, p.cpih);
-    planes::place_distances(cells, distances, s, p.bw, depth);
+    planes::values(cells, Kind::Numbers, s, p.cpih);
+    planes::outputs(cells, distances, Kind::Numbers, s, p.bw, depth);
 }
 
 // The same, and of a damaged page the largest distance where the sample is marked.
@@ -171,8 +166,8 @@ fn place_by(
     ensures { PlacedIn v damaged placed stream.now h cells.old cells.new distances.old distances.new }
 {
     match v {
-        Verdict::Fine => place_in(damaged, placed, stream, cells, marks, distances, h),
-        Verdict::Refused(_) => {}
+        Ok(()) => place_in(damaged, placed, stream, cells, marks, distances, h),
+        Err(_) => {}
     }
 }
 
@@ -219,9 +214,9 @@ fn plane_row(asked: bool, h: Header, plane: Field, n: usize, cells: usize) -> Ve
     ensures { result ≡ first (cond asked (check Lent h.slice plane cells (N h) ample ∷ []) []) }
 {
     if asked {
-        return rows::one(Check(Row::Lent, h.slice, plane, cells, n, AMPLE));
+        return rows::first(&[Check(Row::Lent, h.slice, plane, cells, n, AMPLE)]);
     }
-    Verdict::Fine
+    Ok(())
 }
 
 // Before the planes N sample cells, and 2N work cells.
@@ -238,12 +233,19 @@ pub(crate) fn room_row(
     requires { (n ≡ N h) × (n ≤ 2 ^ 30) }
     ensures { result ≡ first (room_checks_by damaged placed h samples work marks distances) }
 {
-    let plain = rows::two(
+    rows::first(&[
         Check(Row::Lent, h.slice, Field::Samples, samples, n, AMPLE),
         Check(Row::Lent, h.slice, Field::Work, work, 2 * n, AMPLE),
-    );
-    let marked = rows::then(plain, plane_row(damaged, h, Field::Marks, n, marks));
-    rows::then(marked, plane_row(placed, h, Field::Distances, n, distances))
+    ])?;
+    plane_row(damaged, h, Field::Marks, n, marks)?;
+    plane_row(placed, h, Field::Distances, n, distances)
+}
+
+// As many cells as a plane has, where it is asked for.
+fn asked(asked: bool, n: usize) -> usize
+    ensures { result ≡ cond asked n 0 }
+{
+    if asked { n } else { 0 }
 }
 
 // Where row 5 has passed, the first N samples, the first 2N work cells and, of each plane that is asked for, the first N cells are lent on.
@@ -263,10 +265,10 @@ fn decode_by(
     ensures { LeavesBy damaged placed stream.now h v (then v (verdict_in stream.now h damaged)) samples.old work.old marks.old distances.old result samples.new work.new marks.new distances.new }
 {
     match v {
-        Verdict::Fine => {
+        Ok(()) => {
             let cells = 2 * n;
-            let marked = rows::choose(damaged, n, 0);
-            let planed = rows::choose(placed, n, 0);
+            let marked = asked(damaged, n);
+            let planed = asked(placed, n);
             decode(
                 damaged,
                 placed,
@@ -278,13 +280,12 @@ fn decode_by(
                 h,
             )
         }
-        Verdict::Refused(_) => refused(v),
+        Err(_) => refused(v),
     }
 }
 
-// Behind a header that is accepted, or refused.
-fn read_by(
-    v: Verdict,
+// Behind an accepted header: row 5, and then the page.
+fn read_behind(
     damaged: bool,
     placed: bool,
     stream: &[u8],
@@ -294,29 +295,24 @@ fn read_by(
     distances: &mut [u16],
     h: Header,
 ) -> Page
-    requires { (v ≡ (reading_of stream.now).verdict) × (h ≡ (reading_of stream.now).header) }
+    requires { ((reading_of stream.now).verdict ≡ Fine) × (h ≡ (reading_of stream.now).header) }
     ensures { ReadsBy damaged placed stream.now samples.old work.old marks.old distances.old result samples.new work.new marks.new distances.new }
 {
-    match v {
-        Verdict::Fine => {
-            let s = shapes::shape_of(h);
-            let n = samples_before(s, s.nc);
-            let w = room_row(
-                damaged,
-                placed,
-                h,
-                n,
-                samples.len(),
-                work.len(),
-                marks.len(),
-                distances.len(),
-            );
-            decode_by(
-                w, damaged, placed, stream, samples, work, marks, distances, h, n,
-            )
-        }
-        Verdict::Refused(_) => refused(v),
-    }
+    let s = shapes::shape_of(h);
+    let n = samples_before(s, s.nc);
+    let w = room_row(
+        damaged,
+        placed,
+        h,
+        n,
+        samples.len(),
+        work.len(),
+        marks.len(),
+        distances.len(),
+    );
+    decode_by(
+        w, damaged, placed, stream, samples, work, marks, distances, h, n,
+    )
 }
 
 // Reads a page in either mode, with a plane of distances or without one. Every entry point is a call of this.
@@ -331,12 +327,10 @@ fn read_in(
 ) -> Page
     ensures { ReadsBy damaged placed stream.now samples.old work.old marks.old distances.old result samples.new work.new marks.new distances.new }
 {
-    let r = header::read(stream);
-    let v = r.verdict;
-    let h = r.header;
-    read_by(
-        v, damaged, placed, stream, samples, work, marks, distances, h,
-    )
+    match header::read(stream) {
+        Ok(h) => read_behind(damaged, placed, stream, samples, work, marks, distances, h),
+        Err(c) => refused(Err(c)),
+    }
 }
 
 // Reads a page, or refuses it. Nothing is asked of the stream or of the buffers lent.

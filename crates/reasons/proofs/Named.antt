@@ -1,4 +1,5 @@
 -- Document 02, C-19, of the record: for an accepted page it names, of each component, where the component is coarsest, and nothing else could be named. Assumes nothing.
+use Rattle.std.specs.Prelude.{Ok, Err}
 use Prim.Native.Nat.{ℕ, ◌≤◌, ◌<◌}
 use mathlib.Core.Path.{◌≡◌, refl, sym, ap, subst, ◌∙◌}
 use mathlib.Core.Bool.{cond}
@@ -9,8 +10,7 @@ use lib.Dec.{ltb}
 use lib.IntN.{ℤ}
 use lib.ListN.{length, get_or}
 use Rattle.whole.proofs.Lists.{listed_at}
-use Rattle.rows.specs.declared.Verdict.{Verdict}
-use Rattle.rows.specs.declared.Verdict.TheVariants.{Fine, Refused}
+use Rattle.rows.specs.Rows.{Fine, Verdict}
 use Rattle.header.specs.declared.header.Header.{Header}
 use Rattle.distances.specs.Rule.{of_four}
 use Rattle.reader.specs.Settings.{setting_of}
@@ -28,8 +28,8 @@ four_at nc f i few l = listed_at 4 (λ i. cond (ltb i nc) (f i) 0) 0 i (omega ar
 
 -- the record holds the verdict, whichever it is
 verdict_told : (v : Verdict) (s : List ℕ) (h : Header) → (why_by v s h).verdict ≡ v
-verdict_told Fine s h = refl
-verdict_told (Refused k) s h = refl
+verdict_told (Ok _) s h = refl
+verdict_told (Err k) s h = refl
 
 -- of a page that is read
 read_named : (s : List ℕ) (a w : ℕ) → AllFine s a w → NamesCoarsest s (why_read s (header_of s))

@@ -1,12 +1,12 @@
 -- What the searches through the bands and through the precincts rest on. Assumes nothing.
-use Prim.Native.Nat.{ℕ, ◌%◌, ◌≤◌, ◌<◌}
+use Prim.Native.Nat.{ℕ, ◌%◌, ◌<◌}
 use mathlib.Core.Path.{◌≡◌, sym, ap, ◌∙◌}
 use mathlib.Core.Bool.{Bool, true, cond, ◌&&◌}
 use mathlib.Core.List.{List}
 use native.Mathlib.Nat.{div-add-mod'}
 use native.Mathlib.Decide.{dec_lt}
 use native.Mathlib.Omega.{arith}
-use borrow.Author.Tests.{lt-ltb, le-ltb, eq-eqb, eqb-true}
+use borrow.Author.Tests.{lt-ltb, eq-eqb, eqb-true}
 use lib.Dec.{eqb}
 use lib.ListN.{get_or}
 use Rattle.layout.specs.Built.{Built}
@@ -108,6 +108,3 @@ module _ {s : List ℕ} {c : Setting} {at : ℕ} {tops : List ℕ} (q : Searched
       ∙ (λ j. lowest (λ p. held_by s c at p (band_is j) && eqb (truncation_of s c at p (band_is j)) (top_is j)) (all c.shape))
       ∙ precinct_found s c q.walks.settled.shape at tops q.largest i l in
       rw (lt-ltb i c.shape.nc l) (λ j. record { band = band_is j; precinct = precinct_is j; truncation = top_is j })
-
-pub coarsest_none : (s : List ℕ) (c : Setting) (at i : ℕ) → c.shape.nc ≤ i → ◌≡◌ {A = Coarse} (record { band = 0; precinct = 0; truncation = 0 }) (coarse_of s c at i)
-coarsest_none s c at i h = rw (le-ltb i c.shape.nc h)

@@ -6,10 +6,8 @@ use mathlib.Core.List.{List}
 use native.Mathlib.Omega.{arith}
 use lib.IntN.{ℤ}
 use lib.ListN.{length, get_or, length-replicate}
-use Rattle.rows.specs.Rows.{first, then}
+use Rattle.rows.specs.Rows.{first, then, Fine, Refused, Verdict}
 use Rattle.rows.specs.declared.Check.{Check}
-use Rattle.rows.specs.declared.Verdict.{Verdict}
-use Rattle.rows.specs.declared.Verdict.TheVariants.{Fine, Refused}
 use Rattle.rows.proofs.Tables.{then_fine}
 use Rattle.layout.specs.Bands.{NL}
 use Rattle.layout.proofs.Sums.{bands_most}

@@ -1,6 +1,6 @@
 -- What the steps of the search ask and answer.
 use Rattle.std.specs.Prelude.{ℕ, ◌^◌, ◌<◌, ◌≡◌, cond, List, ltb, length, get_or}
-use Rattle.rows.specs.declared.Verdict.TheVariants.{Fine}
+use Rattle.rows.specs.Rows.{Fine}
 use Rattle.layout.specs.Bands.{NL}
 use Rattle.header.specs.declared.header.Header.{Header}
 use Rattle.packets.specs.declared.Setting.{Setting}

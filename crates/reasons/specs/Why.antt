@@ -1,8 +1,6 @@
 -- Document 02, C-19: what is told of a page, for every stream and every pair of lent buffers.
-use Rattle.std.specs.Prelude.{List, ◌≡◌, ℕ, ◌*◌, ◌/◌, ◌%◌, ◌<◌, ℤ, length, get_or, replicate}
-use Rattle.rows.specs.Rows.{place_of}
-use Rattle.rows.specs.declared.Verdict.{Verdict}
-use Rattle.rows.specs.declared.Verdict.TheVariants.{Fine, Refused}
+use Rattle.std.specs.Prelude.{List, ◌≡◌, ℕ, ◌*◌, ◌/◌, ◌%◌, ◌<◌, ℤ, length, get_or, replicate, Ok, Err}
+use Rattle.rows.specs.Rows.{place_of, Fine, Refused, Verdict}
 use Rattle.header.specs.declared.header.Header.{Header}
 use Rattle.shapes.specs.Shapes.{shape_of}
 use Rattle.slices.specs.Reached.{stream_has}
@@ -31,8 +29,8 @@ why_refused v =
     record { verdict = v; place = place_of v 0; components = 0; band = replicate 4 0; precinct = replicate 4 0; truncation = replicate 4 0 }
 
 abbrev pub why_by : Verdict → List ℕ → Header → Why
-why_by Fine s h = why_read s h
-why_by (Refused k) s h = why_refused (Refused k)
+why_by (Ok _) s h = why_read s h
+why_by (Err k) s h = why_refused (Refused k)
 
 -- of the stream s, where `a` sample cells and `w` work cells are lent
 abbrev pub why_of : List ℕ → ℕ → ℕ → Why

@@ -4,7 +4,7 @@
 mod search;
 
 ghost use Rattle.std.specs.Prelude.{◌≡◌};
-ghost use Rattle.rows.specs.declared.Verdict.TheVariants.{Fine};
+ghost use Rattle.rows.specs.Rows.{Fine};
 ghost use Rattle.reasons.specs.Why.{why_read, why_refused, why_by, Explains};
 ghost use Rattle.reasons.specs.Steps.{Told};
 
@@ -39,7 +39,7 @@ fn read_why(stream: &[u8], h: Header, tops: [usize; 40]) -> Why
     let c2 = coarsest_of(stream, c, at, tops, 2);
     let c3 = coarsest_of(stream, c, at, tops, 3);
     Why {
-        verdict: Verdict::Fine,
+        verdict: Ok(()),
         place: p.lcod,
         components: p.nc,
         band: [c0.band, c1.band, c2.band, c3.band],
@@ -67,8 +67,8 @@ fn why_by(v: Verdict, stream: &[u8], h: Header, tops: [usize; 40]) -> Why
     ensures { result ≡ why_by v stream.now h }
 {
     match v {
-        Verdict::Fine => read_why(stream, h, tops),
-        Verdict::Refused(_) => refused_why(v),
+        Ok(()) => read_why(stream, h, tops),
+        Err(_) => refused_why(v),
     }
 }
 

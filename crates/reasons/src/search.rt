@@ -14,7 +14,6 @@ ghost use Rattle.reasons.specs.Steps.{Walked, Searched, coarse_of};
 use layout::Shape;
 use layout::headers::band_count;
 use layout::lines::has_lines;
-use layout::numbers::larger;
 use layout::precincts::{precinct_columns, precinct_rows};
 use packets::bands::truncation_of;
 use packets::{Precinct, Setting};
@@ -33,10 +32,7 @@ fn own_top(nc: usize, i: usize, b: usize, top: usize) -> usize
     requires { 0 < nc }
     ensures { result ≡ cond (eqb (b % nc) i) top 0 }
 {
-    if b % nc == i {
-        return top;
-    }
-    0
+    if b % nc == i { top } else { 0 }
 }
 
 // The largest T of component i, from that of each of n bands.
@@ -44,11 +40,9 @@ fn largest_of(tops: [usize; 40], nc: usize, n: usize, i: usize) -> usize
     requires { (0 < nc) × (n ≤ 40) }
     ensures { result ≡ largest (λ b. cond (eqb (b % nc) i) (get_or tops b 0) 0) n }
 {
-    let mut top = 0;
-    let mut b = 0;
-    while b < n {
-        top = larger(top, own_top(nc, i, b, tops[b]));
-        b += 1;
+    let mut top: usize = 0;
+    for b in 0..n {
+        top = top.max(own_top(nc, i, b, tops[b]));
     }
     top
 }
@@ -66,14 +60,12 @@ fn lowest_band(tops: [usize; 40], nc: usize, n: usize, i: usize, top: usize) -> 
     requires { (0 < nc) × (n ≤ 40) }
     ensures { result ≡ lowest (λ b. eqb (b % nc) i && eqb (get_or tops b 0) top) n }
 {
-    let mut b = 0;
-    while b < n {
+    for b in 0..n {
         if has_largest(nc, i, b, tops[b], top) {
             return b;
         }
-        b += 1;
     }
-    b
+    n
 }
 
 // Whether a precinct holds band b with this T.
@@ -81,12 +73,7 @@ fn holds_with(c: Setting, p: Precinct, b: usize, top: usize) -> bool
     requires { Settled c × (p.row < Npy c.shape) × (b < NL c.shape) }
     ensures { result ≡ (holds c p b && eqb (T c p b) top) }
 {
-    let shape = c.shape;
-    if has_lines(shape, p.row, b) {
-        let t = truncation_of(c, p, b);
-        return t == top;
-    }
-    false
+    has_lines(c.shape, p.row, b) && truncation_of(c, p, b) == top
 }
 
 // The precincts of a page, and of a slice that has all its rows.
@@ -94,18 +81,14 @@ fn precinct_count(s: Shape) -> usize
     requires { Built s }
     ensures { (result ≡ all s) × (result ≤ 2 ^ 28) }
 {
-    let columns = precinct_columns(s);
-    let rows = precinct_rows(s);
-    columns * rows
+    precinct_columns(s) * precinct_rows(s)
 }
 
 fn slice_size(s: Shape) -> usize
     requires { Built s }
     ensures { result ≡ per_slice s }
 {
-    let columns = precinct_columns(s);
-    let rows = s.hsl;
-    columns * rows
+    precinct_columns(s) * s.hsl
 }
 
 // Where precinct n of a slice stands: the first one behind the slice's header.
@@ -113,10 +96,7 @@ fn past_header(n: usize, at: usize) -> usize
     requires { at < 2 ^ 60 }
     ensures { result ≡ cond (eqb n 0) (at + slice_header_bytes) at }
 {
-    if n == 0 {
-        return at + 6;
-    }
-    at
+    if n == 0 { at + 6 } else { at }
 }
 
 // The lowest precinct of the page that holds band b with this T. Declared lengths lead from each precinct to the next.
@@ -127,17 +107,15 @@ fn lowest_precinct(s: &[u8], c: Setting, at: usize, b: usize, top: usize) -> usi
     let count = precinct_count(c.shape);
     let size = slice_size(c.shape);
     let mut place = at;
-    let mut p = 0;
-    while p < count {
+    for p in 0..count {
         let n = p % size;
         let q = precinct_in(s, c, p / size, n, past_header(n, place));
         if holds_with(c, q, b, top) {
             return p;
         }
         place = q.end;
-        p += 1;
     }
-    p
+    count
 }
 
 // Of component i, all 0 where there is none. `tops` has the largest T of each band.
@@ -152,15 +130,16 @@ pub fn coarsest_of(s: &[u8], c: Setting, at: usize, tops: [usize; 40], i: usize)
         let top = largest_of(tops, nc, n, i);
         let b = lowest_band(tops, nc, n, i, top);
         let p = lowest_precinct(s, c, at, b, top);
-        return Coarse {
+        Coarse {
             band: b,
             precinct: p,
             truncation: top,
-        };
-    }
-    Coarse {
-        band: 0,
-        precinct: 0,
-        truncation: 0,
+        }
+    } else {
+        Coarse {
+            band: 0,
+            precinct: 0,
+            truncation: 0,
+        }
     }
 }

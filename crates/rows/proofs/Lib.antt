@@ -1,3 +1,4 @@
 pub mod Tables
+pub mod Passing
 pub mod Sites
 pub mod Low

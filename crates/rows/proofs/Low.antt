@@ -3,9 +3,8 @@ use Prim.Native.Nat.{ℕ, zero, suc, ◌≤◌}
 use mathlib.Core.Bool.{Bool, true, false, cond}
 use mathlib.Core.List.{List, [], ◌∷◌, ◌++◌}
 use native.Mathlib.Omega.{arith}
-use Rattle.rows.specs.Rows.{number, broken, first, each, answer}
+use Rattle.rows.specs.Rows.{number, broken, first, each, answer, Refused}
 use Rattle.rows.specs.declared.Check.{Check}
-use Rattle.rows.specs.declared.Verdict.TheVariants.{Refused}
 
 -- each row of the table has a number up to 6
 abbrev pub Low : List Check → Type 0

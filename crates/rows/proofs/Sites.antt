@@ -1,21 +1,20 @@
 -- Where a refusal stands: no place is past n, where every check to which a reading comes stands at most there. Assumes nothing.
+use Rattle.std.specs.Prelude.{Ok, Err}
 use Prim.Native.Nat.{ℕ, zero, suc, ◌≤◌, ◌<◌}
 use mathlib.Core.Bool.{Bool, true, false, ◌||◌, cond}
 use mathlib.Core.List.{List, [], ◌∷◌, ◌++◌}
 use mathlib.Core.Path.{◌≡◌, refl, ◌∙◌}
 use native.Mathlib.Omega.{arith}
 use borrow.Author.Tests.{le-ltb}
-use Rattle.rows.specs.Rows.{broken, first, then, each}
+use Rattle.rows.specs.Rows.{broken, first, then, each, Fine, Refused, Verdict}
 use Rattle.rows.specs.Tables.{Holds}
 use Rattle.rows.specs.declared.Check.{Check}
-use Rattle.rows.specs.declared.Verdict.{Verdict}
-use Rattle.rows.specs.declared.Verdict.TheVariants.{Fine, Refused}
 use Rattle.rows.proofs.Tables.{held}
 
 -- a verdict whose place, where it has one, is at most n
 abbrev pub Inside : ℕ → Verdict → Type 0
-Inside n Fine = Unit {0}
-Inside n (Refused c) = c.1 ≤ n
+Inside n (Ok _) = Unit {0}
+Inside n (Err c) = c.1 ≤ n
 
 -- as far as a reading comes, every check of the table stands at most at n
 abbrev pub Sited : ℕ → List Check → Type 0
@@ -32,8 +31,8 @@ sited n (c ∷ cs) h = pick (broken c) refl (λ k. sited n cs (h.1 k))
 
 -- one verdict, or one table, after another
 pub inside_then : (n : ℕ) (v w : Verdict) → Inside n v → (v ≡ Fine → Inside n w) → Inside n (then v w)
-inside_then n Fine w h k = k refl
-inside_then n (Refused c) w h k = h
+inside_then n (Ok _) w h k = k refl
+inside_then n (Err c) w h k = h
 
 unbroken : (c : Check) → Holds c → broken c ≡ false
 unbroken c h = λ i. le-ltb c.3 c.4 h.least i || le-ltb c.5 c.3 h.most i

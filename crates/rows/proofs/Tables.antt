@@ -1,4 +1,5 @@
 -- Laws of tables: how they join, and what one says of which no check is broken. Assumes nothing.
+use Rattle.std.specs.Prelude.{Ok, Err}
 use Prim.Native.Nat.{ℕ, zero, suc, ◌+◌, ◌≤◌, ◌<◌}
 use mathlib.Core.Bool.{Bool, true, false, ◌||◌, cond}
 use mathlib.Core.List.Memᴰ
@@ -10,13 +11,11 @@ use native.Mathlib.Numerals.{add-one}
 use native.Mathlib.Omega.{arith}
 use borrow.Author.Tests.{ltb-false, le-ltb}
 use lib.Dec.{ltb}
-use Rattle.rows.specs.Rows.{number, broken, first, then, each, answer}
+use Rattle.rows.specs.Rows.{number, broken, first, then, each, answer, Fine, Refused, Verdict}
 use Rattle.rows.specs.Tables.{Holds, Held, Unbroken, FirstBroken}
 use Rattle.rows.specs.declared.Check.{Check}
 use Rattle.rows.specs.declared.Row.{Row}
 use Rattle.rows.specs.declared.Row.TheVariants.{Cut, Marker, Value, Lacking, Lent, Length, Count, Mode}
-use Rattle.rows.specs.declared.Verdict.{Verdict}
-use Rattle.rows.specs.declared.Verdict.TheVariants.{Fine, Refused}
 
 -- ---- tables, one after the other
 
@@ -58,8 +57,8 @@ pub refused_fine : {A : Type 0} {c : Check} → Refused c ≡ Fine → A
 refused_fine e = let z : ◌≡◌ {A = ℕ} 0 1 = cc in absurd (omega arith)
 
 pub then_fine : (v w : Verdict) → then v w ≡ Fine → (v ≡ Fine) × (w ≡ Fine)
-then_fine Fine w e = (refl, e)
-then_fine (Refused c) w e = refused_fine e
+then_fine (Ok _) w e = (refl, e)
+then_fine (Err c) w e = refused_fine e
 
 -- the rows have the numbers 1 to 8
 pub numbered : (r : Row) → (0 < number r) × (number r ≤ 8)
@@ -74,12 +73,12 @@ numbered Mode = (omega arith, omega arith)
 
 -- so that the answer 0 refuses nothing
 pub answer_fine : (v : Verdict) → answer v ≡ 0 → v ≡ Fine
-answer_fine Fine e = refl
-answer_fine (Refused c) e = absurd (omega (arith, e, (numbered c.0).0))
+answer_fine (Ok _) e = refl
+answer_fine (Err c) e = absurd (omega (arith, e, (numbered c.0).0))
 
 pub answer_most : (v : Verdict) → answer v ≤ 8
-answer_most Fine = omega arith
-answer_most (Refused c) = (numbered c.0).1
+answer_most (Ok _) = omega arith
+answer_most (Err c) = (numbered c.0).1
 
 pub append_fine : (xs ys : List Check) → first (xs ++ ys) ≡ Fine → (first xs ≡ Fine) × (first ys ≡ Fine)
 append_fine xs ys e = then_fine (first xs) (first ys) (sym (first_append xs ys) ∙ e)
@@ -155,9 +154,9 @@ first_breaks t c = (first_broken t c, back)
 -- ---- tables of an index that decide as one of them does
 
 then_same : (v w : Verdict) → (w ≡ Fine) ⊎ (w ≡ v) → then v w ≡ v
-then_same Fine w (inl e) = e
-then_same Fine w (inr e) = e
-then_same (Refused c) w o = refl
+then_same (Ok _) w (inl e) = e
+then_same (Ok _) w (inr e) = e
+then_same (Err c) w o = refl
 
 then_either : (u v w : Verdict) → (u ≡ Fine) ⊎ (u ≡ v) → (w ≡ Fine) ⊎ (w ≡ v) → (then u w ≡ Fine) ⊎ (then u w ≡ v)
 then_either u v w (inl e) o = rw e o

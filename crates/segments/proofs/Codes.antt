@@ -5,9 +5,8 @@ use mathlib.Core.Path.{◌≡◌, refl, sym, subst}
 use native.Mathlib.Omega.{arith}
 use borrow.Author.Tests.{eqb-true, eqb-false}
 use lib.Dec.{eqb, ltb}
-use Rattle.rows.specs.Rows.{first}
+use Rattle.rows.specs.Rows.{first, Fine}
 use Rattle.rows.specs.declared.Field.TheVariants.{Nlt, Cts, Tpc, Wgr}
-use Rattle.rows.specs.declared.Verdict.TheVariants.{Fine}
 use Rattle.rows.proofs.Tables.{held}
 use Rattle.picture.specs.Markers.{CDT, WGT, COM, NLT, CWD, CTS, CRG, TPC, WGR, SLH, SLI}
 use Rattle.picture.specs.declared.segment.Segment.{Segment}

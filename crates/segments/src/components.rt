@@ -1,12 +1,12 @@
 // The component table.
-ghost use Rattle.std.specs.Prelude.{◌≡◌, ◌+◌, ◌*◌, ◌%◌, ◌≤◌, ◌<◌, ◌^◌};
+ghost use Rattle.std.specs.Prelude.{◌≡◌, cond, [], ◌∷◌, ◌&&◌, ◌+◌, ◌*◌, ◌%◌, ◌≤◌, ◌<◌, ◌^◌, eqb, ltb};
 ghost use Rattle.rows.specs.Rows.{first};
 ghost use Rattle.bits.specs.Fields.{IsField};
 ghost use Rattle.picture.specs.Picture.{Built};
-ghost use Rattle.segments.specs.Components.{widest, depth_checks, level_checks, filter_checks, sx_checks, sy_checks, across_checks, down_checks, component_checks, components_checks, IsComponent};
+ghost use Rattle.segments.specs.Components.{widest, depth_checks, level_checks, filter_checks, column_check, sx_checks, sy_checks, across_checks, down_checks, component_checks, components_checks, IsComponent};
 
 use crate::numbers::{ceil, remainder};
-use layout::numbers::{larger, less, low_size, power};
+use layout::numbers::{low_size, power};
 use picture::picture::Picture;
 use rows::{AMPLE, Check, Field, Row, Verdict};
 
@@ -53,10 +53,8 @@ fn widest(s: &[u8], p: usize, n: usize) -> usize
     ensures { (result ≡ widest s.now p n) × (result < 16) }
 {
     let mut m = 0;
-    let mut c = 0;
-    while c < n {
-        m = larger(m, sx_at(s, p, c));
-        c += 1;
+    for c in 0..n {
+        m = m.max(sx_at(s, p, c));
     }
     m
 }
@@ -68,12 +66,11 @@ fn depth_row(s: &[u8], h: Picture, p: usize, c: usize) -> Verdict
 {
     let place = p + 4 + 2 * c;
     let depth = bits::u8_at(s, place);
-    let least = rows::choose(h.fq == 0, h.bw, 8);
-    let most = rows::choose(h.fq == 0, h.bw, 16);
-    rows::two(
+    let (least, most) = if h.fq == 0 { (h.bw, h.bw) } else { (8, 16) };
+    rows::first(&[
         Check(Row::Value, place, Field::B, depth, 8, 16),
         Check(Row::Value, place, Field::B, depth, least, most),
-    )
+    ])
 }
 
 // Two samples to each filter: n samples, halved from level to level.
@@ -81,13 +78,10 @@ fn filter_row(field: Field, place: usize, n: usize, levels: usize) -> Verdict
     requires { (n < 2 ^ 32) × (levels ≤ 5) }
     ensures { result ≡ first (filter_checks field place n levels) }
 {
-    let mut v = Verdict::Fine;
-    let mut d = 0;
-    while d < levels {
-        v = rows::then(v, level_row(field, place, n, d));
-        d += 1;
+    for d in 0..levels {
+        level_row(field, place, n, d)?;
     }
-    v
+    Ok(())
 }
 
 // The filter behind d others.
@@ -95,7 +89,7 @@ fn level_row(field: Field, place: usize, n: usize, d: usize) -> Verdict
     requires { (n < 2 ^ 32) × (d ≤ 5) }
     ensures { result ≡ first (level_checks field place n d) }
 {
-    rows::one(Check(Row::Lacking, place, field, low_size(n, d), 2, AMPLE))
+    rows::first(&[Check(Row::Lacking, place, field, low_size(n, d), 2, AMPLE)])
 }
 
 // Precinct columns are multiples of this many grid points, for the greatest sx.
@@ -114,6 +108,25 @@ fn last_column(h: Picture, unit: usize) -> usize
     remainder(h.wf, 8 * h.cw * unit)
 }
 
+// A precinct column's least width: at the last component the unit, and nothing before.
+fn least_column(h: Picture, c: usize, unit: usize) -> usize
+    requires { c < 256 }
+    ensures { result ≡ cond (eqb (c + 1) h.nc && ltb 0 h.cw) unit 0 }
+{
+    if c + 1 == h.nc && 0 < h.cw { unit } else { 0 }
+}
+
+// The rule of Cw, which joins it with every sx: m is the greatest.
+fn column_row(s: &[u8], h: Picture, p: usize, c: usize, m: usize) -> Verdict
+    requires { Built h × (p < 2 ^ 32) × (c < 256) × (m ≡ widest s.now p h.nc) × (m < 16) }
+    ensures { result ≡ first (column_check s.now h p c ∷ []) }
+{
+    let unit = column_unit(h, m);
+    let last = last_column(h, unit);
+    let least = least_column(h, c, unit);
+    rows::first(&[Check(Row::Value, p + 5 + 2 * c, Field::Cw, last, least, AMPLE)])
+}
+
 // The rules of sx, and at the last component that of Cw: m is the greatest sx.
 fn sx_row(s: &[u8], h: Picture, p: usize, c: usize, m: usize) -> Verdict
     requires { Built h × (p < 2 ^ 32) × (c < 256) × (m ≡ widest s.now p h.nc) × (m < 16) }
@@ -121,16 +134,13 @@ fn sx_row(s: &[u8], h: Picture, p: usize, c: usize, m: usize) -> Verdict
 {
     let place = p + 5 + 2 * c;
     let sx = sx_at(s, p, c);
-    let most = rows::choose((c == 1) | (c == 2), 2, 1);
-    let colour = rows::choose(h.cpih == 1, 1, 2);
-    let unit = column_unit(h, m);
-    let last = last_column(h, unit);
-    let least = rows::choose((c + 1 == h.nc) & (0 < h.cw), unit, 0);
-    rows::three(
+    let most = if c == 1 || c == 2 { 2 } else { 1 };
+    let colour = if h.cpih == 1 { 1 } else { 2 };
+    rows::first(&[
         Check(Row::Value, place, Field::Sx, sx, 1, most),
         Check(Row::Value, place, Field::Sx, sx, 1, colour),
-        Check(Row::Value, place, Field::Cw, last, least, AMPLE),
-    )
+    ])?;
+    column_row(s, h, p, c, m)
 }
 
 // All that is checked at sx.
@@ -139,10 +149,8 @@ fn across_row(s: &[u8], h: Picture, p: usize, c: usize, m: usize) -> Verdict
     ensures { result ≡ first (across_checks s.now h p c) }
 {
     let samples = ceil(h.wf, sx_at(s, p, c));
-    rows::then(
-        sx_row(s, h, p, c, m),
-        filter_row(Field::Across, p + 5 + 2 * c, samples, h.nlx),
-    )
+    sx_row(s, h, p, c, m)?;
+    filter_row(Field::Across, p + 5 + 2 * c, samples, h.nlx)
 }
 
 // The rules of sy.
@@ -153,13 +161,13 @@ fn sy_row(s: &[u8], h: Picture, p: usize, c: usize) -> Verdict
     let place = p + 5 + 2 * c;
     let sx = sx_at(s, p, c);
     let sy = sy_at(s, p, c);
-    let colour = rows::choose(h.cpih == 1, 1, 2);
+    let colour = if h.cpih == 1 { 1 } else { 2 };
     let levels = power(h.nly);
-    rows::three(
+    rows::first(&[
         Check(Row::Value, place, Field::Sy, sy, 1, sx),
         Check(Row::Value, place, Field::Sy, sy, 1, colour),
         Check(Row::Value, place, Field::Sy, sy, 1, levels),
-    )
+    ])
 }
 
 // All that is checked at sy.
@@ -169,11 +177,9 @@ fn down_row(s: &[u8], h: Picture, p: usize, c: usize) -> Verdict
 {
     let sy = sy_at(s, p, c);
     let samples = ceil(h.hf, sy);
-    let levels = less(h.nly, sy / 2);
-    rows::then(
-        sy_row(s, h, p, c),
-        filter_row(Field::Down, p + 5 + 2 * c, samples, levels),
-    )
+    let levels = h.nly.saturating_sub(sy / 2);
+    sy_row(s, h, p, c)?;
+    filter_row(Field::Down, p + 5 + 2 * c, samples, levels)
 }
 
 // One component.
@@ -181,10 +187,9 @@ fn component_row(s: &[u8], h: Picture, p: usize, c: usize, m: usize) -> Verdict
     requires { Built h × (p < 2 ^ 32) × (c < 256) × (m ≡ widest s.now p h.nc) × (m < 16) }
     ensures { result ≡ first (component_checks s.now h p c) }
 {
-    let depth = depth_row(s, h, p, c);
-    let across = across_row(s, h, p, c, m);
-    let down = down_row(s, h, p, c);
-    rows::then(depth, rows::then(across, down))
+    depth_row(s, h, p, c)?;
+    across_row(s, h, p, c, m)?;
+    down_row(s, h, p, c)
 }
 
 // All components of the table at p.
@@ -192,13 +197,9 @@ pub(crate) fn components_row(s: &[u8], h: Picture, p: usize) -> Verdict
     requires { Built h × (p < 2 ^ 32) }
     ensures { result ≡ first (components_checks s.now h p) }
 {
-    let nc = h.nc;
-    let m = widest(s, p, nc);
-    let mut v = Verdict::Fine;
-    let mut c = 0;
-    while c < nc {
-        v = rows::then(v, component_row(s, h, p, c, m));
-        c += 1;
+    let m = widest(s, p, h.nc);
+    for c in 0..h.nc {
+        component_row(s, h, p, c, m)?;
     }
-    v
+    Ok(())
 }

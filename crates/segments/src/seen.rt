@@ -31,5 +31,5 @@ impl Seen {
 pub(crate) fn count(place: usize) -> usize
     ensures { result ≡ counted place }
 {
-    rows::choose(place == 0, 0, 1)
+    usize::from(place != 0)
 }

@@ -17,38 +17,40 @@ use rows::{AMPLE, Check, Field, Row, Verdict};
 fn head_row(g: Segment) -> Verdict
     ensures { result ≡ first (head_checks g) }
 {
-    rows::one(Check(Row::Cut, g.at, Field::Next, g.left, 2, AMPLE))
+    rows::first(&[Check(Row::Cut, g.at, Field::Next, g.left, 2, AMPLE)])
 }
 
 // One that is unknown is refused.
 fn unknown_row(g: Segment) -> Verdict
     ensures { result ≡ first (unknown_checks g) }
 {
-    let slice = Marker::WGR < g.marker;
-    let least = rows::choose(slice, Marker::SLH, Marker::CDT);
-    let most = rows::choose(slice, Marker::SLI, Marker::WGR);
-    rows::one(Check(Row::Marker, g.at, Field::Next, g.marker, least, most))
+    let (least, most) = if Marker::WGR < g.marker {
+        (Marker::SLH, Marker::SLI)
+    } else {
+        (Marker::CDT, Marker::WGR)
+    };
+    rows::first(&[Check(Row::Marker, g.at, Field::Next, g.marker, least, most)])
 }
 
 // Not twice.
 fn once_row(field: Field, p: usize, seen: usize) -> Verdict
     ensures { result ≡ first (once_checks field p seen) }
 {
-    rows::one(Check(Row::Marker, p, field, 1 + count(seen), 1, 1))
+    rows::first(&[Check(Row::Marker, p, field, 1 + count(seen), 1, 1)])
 }
 
 // Not missing.
 fn seen_row(row: Row, field: Field, p: usize, seen: usize) -> Verdict
     ensures { result ≡ first (seen_checks row field p seen) }
 {
-    rows::one(Check(row, p, field, count(seen), 1, 1))
+    rows::first(&[Check(row, p, field, count(seen), 1, 1)])
 }
 
 // Not built.
 fn unbuilt_row(field: Field, p: usize) -> Verdict
     ensures { result ≡ first (unbuilt_checks field p) }
 {
-    rows::one(Check(Row::Lacking, p, field, 1, 0, 0))
+    rows::first(&[Check(Row::Lacking, p, field, 1, 0, 0)])
 }
 
 // The component table, A.4.5.
@@ -57,10 +59,9 @@ fn table_row(s: &[u8], h: Picture, x: Seen, g: Segment) -> Verdict
     ensures { result ≡ first (table_checks s.now h x g) }
 {
     let size = 2 * h.nc + 2;
-    let once = once_row(Field::Cdt, g.at, x.cdt);
-    let length = length_row(g, Field::Lcdt, size, size);
-    let components = components_row(s, h, g.at);
-    rows::then(once, rows::then(length, components))
+    once_row(Field::Cdt, g.at, x.cdt)?;
+    length_row(g, Field::Lcdt, size, size)?;
+    components_row(s, h, g.at)
 }
 
 // The weights table, A.4.12.
@@ -69,11 +70,10 @@ fn weight_row(s: &[u8], h: Picture, x: Seen, g: Segment) -> Verdict
     ensures { result ≡ first (weight_checks s.now h x g) }
 {
     let n = existing_bands(s, h, x.cdt);
-    let once = once_row(Field::Wgt, g.at, x.wgt);
-    let table = seen_row(Row::Lacking, Field::Cdt, g.at, x.cdt);
-    let length = length_row(g, Field::Lwgt, 2 + 2 * n, 2 + 2 * n);
-    let gains = gains_row(s, g.at, n);
-    rows::then(once, rows::then(table, rows::then(length, gains)))
+    once_row(Field::Wgt, g.at, x.wgt)?;
+    seen_row(Row::Lacking, Field::Cdt, g.at, x.cdt)?;
+    length_row(g, Field::Lwgt, 2 + 2 * n, 2 + 2 * n)?;
+    gains_row(s, g.at, n)
 }
 
 // An extension, A.4.11.
@@ -83,12 +83,9 @@ fn extension_row(s: &[u8], g: Segment) -> Verdict
 {
     let place = g.at + 4;
     let tcom = bits::u16_at(s, place);
-    let most = rows::choose(tcom < 0x8000, 1, 0xffff);
-    let length = length_row(g, Field::Lcom, 4, 0xffff);
-    rows::then(
-        length,
-        rows::one(Check(Row::Value, place, Field::Tcom, tcom, 0, most)),
-    )
+    let most = if tcom < 0x8000 { 1 } else { 0xffff };
+    length_row(g, Field::Lcom, 4, 0xffff)?;
+    rows::first(&[Check(Row::Value, place, Field::Tcom, tcom, 0, most)])
 }
 
 // Component registration, A.4.9.
@@ -97,8 +94,8 @@ fn registration_row(h: Picture, x: Seen, g: Segment) -> Verdict
     ensures { result ≡ first (registration_checks h x g) }
 {
     let size = 2 + 4 * h.nc;
-    let once = once_row(Field::Crg, g.at, x.crg);
-    rows::then(once, length_row(g, Field::Lcrg, size, size))
+    once_row(Field::Crg, g.at, x.crg)?;
+    length_row(g, Field::Lcrg, size, size)
 }
 
 // How many components at the end are sampled at every grid point.
@@ -107,11 +104,9 @@ fn full_tail(s: &[u8], cdt: usize, n: usize) -> usize
     ensures { result ≡ full_tail s.now cdt n }
 {
     let mut tail = 0;
-    let mut c = 0;
-    while c < n {
+    for c in 0..n {
         let full = (sx_at(s, cdt, c) == 1) & (sy_at(s, cdt, c) == 1);
-        tail = rows::choose(full, tail + 1, 0);
-        c += 1;
+        tail = if full { tail + 1 } else { 0 };
     }
     tail
 }
@@ -124,12 +119,12 @@ fn sd_row(s: &[u8], h: Picture, x: Seen, g: Segment) -> Verdict
     let p = g.at + 4;
     let sd = bits::u8_at(s, p);
     let tail = full_tail(s, x.cdt, h.nc);
-    let most = rows::choose(x.cdt == 0, h.nc, tail);
-    rows::three(
+    let most = if x.cdt == 0 { h.nc } else { tail };
+    rows::first(&[
         Check(Row::Value, p, Field::Sd, sd, 1, h.nc - 1),
         Check(Row::Value, p, Field::Sd, sd, 1, most),
         Check(Row::Lacking, p, Field::Sd, sd, 0, 0),
-    )
+    ])
 }
 
 // That segment, A.4.7.
@@ -137,26 +132,27 @@ fn undecomposed_row(s: &[u8], h: Picture, x: Seen, g: Segment) -> Verdict
     requires { Built h × Placed x g }
     ensures { result ≡ first (undecomposed_checks s.now h x g) }
 {
-    let most = rows::choose(3 < h.nc, 1, 0);
+    let most = if 3 < h.nc { 1 } else { 0 };
     let found = 1 + count(x.cwd);
-    let once = rows::one(Check(Row::Marker, g.at, Field::Cwd, found, most, most));
-    let length = length_row(g, Field::Lcwd, 3, 3);
-    rows::then(once, rows::then(length, sd_row(s, h, x, g)))
+    rows::first(&[Check(Row::Marker, g.at, Field::Cwd, found, most, most)])?;
+    length_row(g, Field::Lcwd, 3, 3)?;
+    sd_row(s, h, x, g)
 }
 
 // The first slice header, A.4.14: both tables stand before it.
 fn slice_row(x: Seen, g: Segment) -> Verdict
     ensures { result ≡ first (slice_checks x g) }
 {
-    let table = seen_row(Row::Marker, Field::Cdt, g.at, x.cdt);
-    rows::then(table, seen_row(Row::Marker, Field::Wgt, g.at, x.wgt))
+    seen_row(Row::Marker, Field::Cdt, g.at, x.cdt)?;
+    seen_row(Row::Marker, Field::Wgt, g.at, x.wgt)
 }
 
 // The same of a slice that may be predicted, A.4.15.
 fn predicted_row(x: Seen, g: Segment) -> Verdict
     ensures { result ≡ first (predicted_checks x g) }
 {
-    rows::then(slice_row(x, g), unbuilt_row(Field::Sli, g.at))
+    slice_row(x, g)?;
+    unbuilt_row(Field::Sli, g.at)
 }
 
 // The checks of a kind.
@@ -182,6 +178,6 @@ pub fn segment_row(s: &[u8], h: Picture, x: Seen, g: Segment) -> Verdict
     requires { Built h × Placed x g }
     ensures { result ≡ first (segment_checks s.now h x g) }
 {
-    let kind = kind_of(g.marker);
-    rows::then(head_row(g), kind_row(kind, s, h, x, g))
+    head_row(g)?;
+    kind_row(kind_of(g.marker), s, h, x, g)
 }

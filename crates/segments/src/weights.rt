@@ -33,12 +33,9 @@ pub(crate) fn existing_bands(s: &[u8], h: Picture, cdt: usize) -> usize
     requires { Built h × (cdt < 2 ^ 32) }
     ensures { (result ≡ bands_in s.now h cdt) × (result ≤ 40) }
 {
-    let all = band_count(h);
     let mut n = 0;
-    let mut b = 0;
-    while b < all {
-        n += rows::choose(band_exists(s, h, cdt, b), 1, 0);
-        b += 1;
+    for b in 0..band_count(h) {
+        n += usize::from(band_exists(s, h, cdt, b));
     }
     n
 }
@@ -50,7 +47,7 @@ fn gain_row(s: &[u8], p: usize, k: usize) -> Verdict
 {
     let place = p + 4 + 2 * k;
     let gain = bits::u8_at(s, place);
-    rows::one(Check(Row::Value, place, Field::G, gain, 0, 15))
+    rows::first(&[Check(Row::Value, place, Field::G, gain, 0, 15)])
 }
 
 // The gains of n bands in the table at p.
@@ -58,11 +55,8 @@ pub(crate) fn gains_row(s: &[u8], p: usize, n: usize) -> Verdict
     requires { (p < 2 ^ 32) × (n < 256) }
     ensures { result ≡ first (gain_checks s.now p n) }
 {
-    let mut v = Verdict::Fine;
-    let mut k = 0;
-    while k < n {
-        v = rows::then(v, gain_row(s, p, k));
-        k += 1;
+    for k in 0..n {
+        gain_row(s, p, k)?;
     }
-    v
+    Ok(())
 }

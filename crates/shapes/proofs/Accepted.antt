@@ -1,4 +1,5 @@
 -- The shape of an accepted header is built: what Annex B's functions ask follows from the header's ranges. Assumes nothing.
+use Rattle.std.specs.Prelude.{Ok, Err}
 use Prim.Native.Nat.{ℕ, zero, suc, ◌*◌, ◌%◌, ◌^◌, ◌≤◌, ◌<◌}
 use mathlib.Core.Path.{◌≡◌, refl, sym, ap, ◌∙◌}
 use mathlib.Core.Bool.{Bool, cond}
@@ -9,8 +10,8 @@ use native.Mathlib.Omega.{arith}
 use borrow.Author.Tests.{le-ltb}
 use lib.ListN.{get_or}
 use Rattle.rows.specs.declared.Check.{Check}
-use Rattle.rows.specs.declared.Verdict.{Verdict}
-use Rattle.rows.specs.declared.Verdict.TheVariants.{Fine, Refused}
+use Rattle.rows.specs.Rows.{answered, Fine, Refused, Verdict}
+use Rattle.rows.proofs.Passing.{answered_ok}
 use Rattle.picture.specs.Picture.{picture_at}
 use Rattle.picture.specs.Opening.{picture_place}
 use Rattle.picture.specs.declared.picture.Picture.{Picture}
@@ -23,6 +24,7 @@ use Rattle.layout.specs.Precincts.{largest}
 use Rattle.layout.specs.Built.{Sampled, Built}
 use Rattle.layout.proofs.Columns.{largest_past}
 use Rattle.header.specs.Header.{four, no_component, component_of, header_in, header_by, walk_of, reading_of}
+use Rattle.header.specs.declared.header.Header.{Header}
 use Rattle.header.specs.Accepted.{largest as list_largest, Ranges}
 use Rattle.header.proofs.Ranges.{four_at}
 use Rattle.header.proofs.Accepted.{accepted_header}
@@ -115,5 +117,11 @@ unfolding reading_of
 built s e = by (walk_of s).verdict e (accepted_header s e).ranges
   where
     by : (v : Verdict) → v ≡ Fine → Ranges (header_by v s (picture_at s (picture_place s)) (walk_of s)) → Built (shape_of (header_by v s (picture_at s (picture_place s)) (walk_of s)))
-    by Fine e r = table_built s (picture_at s (picture_place s)) (walk_of s).seen (walk_of s).at r
-    by (Refused c) e r = refused_fine e
+    by (Ok _) e r = table_built s (picture_at s (picture_place s)) (walk_of s).seen (walk_of s).at r
+    by (Err c) e r = refused_fine e
+
+-- what a reading of the header answers has a shape that is built
+pub read_built : (s : List ℕ) {h : Header} → answered (reading_of s).verdict (reading_of s).header ≡ Ok h → Built (shape_of h)
+read_built s e =
+    let both = answered_ok (reading_of s).verdict (reading_of s).header e in
+    rw (← both.1) (built s both.0)

@@ -12,6 +12,7 @@ pub fn shape_of(h: Header) -> Shape
     ensures { result ≡ shape_of h }
 {
     let p = h.picture;
+    // variables, since an array field is not yet stored straight from another
     let sx = h.sx;
     let sy = h.sy;
     Shape {
@@ -22,7 +23,7 @@ pub fn shape_of(h: Header) -> Shape
         nc: p.nc,
         nlx: p.nlx,
         nly: p.nly,
-        sx: sx,
-        sy: sy,
+        sx,
+        sy,
     }
 }

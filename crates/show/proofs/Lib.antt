@@ -1,7 +1,6 @@
 pub mod Counted
 pub mod Digits
 pub mod Puts
-pub mod Shared
 pub mod Reasons
 pub mod Worded
 pub mod Once

@@ -1,28 +1,20 @@
 -- Laws of putting texts: one after another, and what a text at the buffer's beginning leaves. Assumes nothing.
-use Prim.Native.Nat.{ℕ, suc, ◌+◌, ◌^◌, ◌≤◌, ◌<◌, min}
-use mathlib.Core.Bool.{true, false, cond}
+use Prim.Native.Nat.{ℕ, suc, ◌+◌, ◌≤◌, ◌<◌, min}
+use mathlib.Core.Bool.{cond}
 use mathlib.Core.List.{List, [], ◌∷◌, ◌++◌, append_assoc}
-use mathlib.Core.Logic.{inl, inr}
 use mathlib.Core.Path.{◌≡◌, refl, sym, ap, ◌∙◌}
 use native.Mathlib.Numerals.{add-one}
 use native.Mathlib.Nat.{zero-min, min-zero, suc-min-suc, min-le_right}
 use native.Mathlib.Omega.{arith}
-use borrow.Author.Tests.{lt-ltb, le-ltb, ne_eqb}
-use lib.Dec.{leb}
+use borrow.Author.Tests.{lt-ltb, le-ltb, lt-leb}
 use lib.ListN.{length, set, take, drop, get_or, length-append, length-set}
 use lib.Seq.{take-suc, take-nil, set_out, set-append_seam}
-use Rattle.fields.specs.Letters.{ascii}
-use Rattle.show.specs.Text.{decimal, cells_of, space, gap, cells_text, row_text, Part, also, next_row, rows, width_of, height_of, title, component, components}
+use Rattle.show.specs.Text.{Kind, Samples, Marks, Distances, decimal, gap, cells_text, Part, also, next_row, rows, width_of, height_of, title, component, components}
 use Rattle.show.specs.Buffer.{State, put_byte, puts, Put, Shown, Leads}
 use Rattle.show.proofs.Counted.{counted}
 use Rattle.io.specs.Counts.{IsPrefixLen}
 use Rattle.reader.specs.declared.page.Page.{Page}
 use Rattle.show.specs.declared.Progress.{Progress}
-use Rattle.show.specs.declared.Plane.{Plane}
-use Rattle.show.specs.contracts.Plane.{the_type}
-use denote.Enum.Declared.{tag_of}
-use types.Run.{OneOf}
-use Rattle.show.specs.declared.Plane.TheVariants.{Samples, Marks, Distances}
 
 -- ---- one byte
 
@@ -63,41 +55,17 @@ put_next x i h p q = rw (add-one, take-suc x i 0) (put_both p q)
 
 -- ---- the planes
 
--- a plane has no more cells than fit, since neither slice has
-pub few_cells : (plane : Plane) (words marks : List ℕ) → length words < 2 ^ 64 → length marks < 2 ^ 64 → length (cells_of plane words marks) < 2 ^ 64
-few_cells Samples words marks h k = h
-few_cells Marks words marks h k = k
-few_cells Distances words marks h k = h
-
--- samples and distances are words: the code has one arm for both, whose numbers are 0 and 2
-module _ (plane : Plane) (key : OneOf (0 ∷ 2 ∷ []) (tag_of the_type plane)) where
-  of_words : (P : Plane → Type 0) → P Samples → P Distances → P plane
-  of_words P a b = by plane key
-    where
-      by : (q : Plane) → OneOf (0 ∷ 2 ∷ []) (tag_of the_type q) → P q
-      by Samples k = a
-      by Marks (inl e) = absurd (omega (arith, e))
-      by Marks (inr e) = absurd (omega (arith, e))
-      by Distances k = b
-
-  pub words_cells : (words marks : List ℕ) → cells_of plane words marks ≡ words
-  words_cells words marks = of_words (λ q. cells_of q words marks ≡ words) refl refl
-
-  pub words_gap : (x : ℕ) → gap plane x ≡ space x
-  words_gap x = of_words (λ q. gap q x ≡ space x) refl refl
-
--- the space before a cell
-pub put_no_space : (x at : ℕ) (o : List ℕ) → x ≡ 0 → Put (space x) at o at o
-put_no_space x at o h = rw h (put_none at o)
-
-pub put_space : {o o' : List ℕ} {at r : ℕ} (x : ℕ) → 0 < x → Put (ascii " ") at o r o' → Put (space x) at o r o'
-put_space x h p = rw (ne_eqb x 0 (λ e. omega arith)) p
+-- no space before the first cell
+pub first_gap : (kind : Kind) (x at : ℕ) (o : List ℕ) → x ≡ 0 → Put (gap kind x) at o at o
+first_gap Samples x at o h = rw h (put_none at o)
+first_gap Marks x at o h = put_none at o
+first_gap Distances x at o h = rw h (put_none at o)
 
 -- one cell more of a row
-pub put_cell : {o o₁ o₂ o₃ : List ℕ} {at r₁ r₂ r₃ : ℕ} (plane : Plane) (cells : List ℕ) (next x : ℕ) → Put (cells_text plane cells next x) at o r₁ o₁
-    → Put (gap plane x) r₁ o₁ r₂ o₂ → Put (decimal (get_or cells (next + x) 0)) r₂ o₂ r₃ o₃ → Put (cells_text plane cells next (x + 1)) at o r₃ o₃
+pub put_cell : {o o₁ o₂ o₃ : List ℕ} {at r₁ r₂ r₃ : ℕ} (kind : Kind) (cells : List ℕ) (next x : ℕ) → Put (cells_text kind cells next x) at o r₁ o₁
+    → Put (gap kind x) r₁ o₁ r₂ o₂ → Put (decimal (get_or cells (next + x) 0)) r₂ o₂ r₃ o₃ → Put (cells_text kind cells next (x + 1)) at o r₃ o₃
 unfolding cells_text
-put_cell plane cells next x p g n = rw add-one (put_both p (put_both g n))
+put_cell kind cells next x p g n = rw add-one (put_both p (put_both g n))
 
 -- ---- parts
 
@@ -110,39 +78,34 @@ shown_also f a b =
     let c = rw a.next_is at b in
     record { next_is = c.next_is; put = put_both a.put c.put }
 
-module _ (plane : Plane) (cells : List ℕ) where
-  -- a row, where there are so many cells
-  pub row_shown : {o o' : List ℕ} {at r : ℕ} (width next : ℕ) → leb (next + width) (length cells) ≡ true
-      → Put (row_text plane cells next width) at o r o' → Shown (next_row plane cells width next) at o (record { at = r; next = next + width }) o'
-  row_shown width next h p = rw h (record { next_is = refl; put = p })
-
-  pub row_left : (width : ℕ) (p : Progress) (o : List ℕ) → leb (p.next + width) (length cells) ≡ false
-      → Shown (next_row plane cells width p.next) p.at o p o
-  row_left width p o h = rw h (shown_none p o)
+module _ (kind : Kind) (cells : List ℕ) where
+  -- no row, where there are not so many cells
+  pub row_left : (width : ℕ) (p : Progress) (o : List ℕ) → length cells < p.next + width → Shown (next_row kind cells width p.next) p.at o p o
+  row_left width p o h = rw (lt-leb (p.next + width) (length cells) h) (shown_none p o)
 
   -- one row more
-  pub shown_row : {o o₁ o₂ : List ℕ} {at : ℕ} {r₁ r₂ : Progress} (width next y : ℕ) → Shown (rows plane cells width next y) at o r₁ o₁
-      → Shown (next_row plane cells width r₁.next) r₁.at o₁ r₂ o₂ → Shown (rows plane cells width next (y + 1)) at o r₂ o₂
+  pub shown_row : {o o₁ o₂ : List ℕ} {at : ℕ} {r₁ r₂ : Progress} (width next y : ℕ) → Shown (rows kind cells width next y) at o r₁ o₁
+      → Shown (next_row kind cells width r₁.next) r₁.at o₁ r₂ o₂ → Shown (rows kind cells width next (y + 1)) at o r₂ o₂
   unfolding rows
-  shown_row width next y a b = rw add-one (shown_also (next_row plane cells width) a b)
+  shown_row width next y a b = rw add-one (shown_also (next_row kind cells width) a b)
 
-module _ (p : Page) (plane : Plane) (cells : List ℕ) where
+module _ (p : Page) (kind : Kind) (cells : List ℕ) where
   -- a component that the page has not
-  pub no_component : (i : ℕ) (q : Progress) (o : List ℕ) → p.components ≤ i → Shown (component p plane cells i q.next) q.at o q o
+  pub no_component : (i : ℕ) (q : Progress) (o : List ℕ) → p.components ≤ i → Shown (component p kind cells i q.next) q.at o q o
   no_component i q o h = rw (le-ltb i p.components h) (shown_none q o)
 
   -- one that it has: its title and its rows
-  pub one_component : {o o₁ o₂ : List ℕ} {at r : ℕ} {q : Progress} (i next : ℕ) → i < p.components → Put (title p plane i) at o r o₁
-      → Shown (rows plane cells (width_of p i) next (height_of p i)) r o₁ q o₂ → Shown (component p plane cells i next) at o q o₂
+  pub one_component : {o o₁ o₂ : List ℕ} {at r : ℕ} {q : Progress} (i next : ℕ) → i < p.components → Put (title p kind i) at o r o₁
+      → Shown (rows kind cells (width_of p i) next (height_of p i)) r o₁ q o₂ → Shown (component p kind cells i next) at o q o₂
   one_component {o} {o₁} {at = at} {r} i next h a b =
-      let top : Shown (title p plane i, next) at o (record { at = r; next = next }) o₁ = record { next_is = refl; put = a } in
-      rw (lt-ltb i p.components h) (shown_also (λ n. rows plane cells (width_of p i) n (height_of p i)) top b)
+      let top : Shown (title p kind i, next) at o (record { at = r; next = next }) o₁ = record { next_is = refl; put = a } in
+      rw (lt-ltb i p.components h) (shown_also (λ n. rows kind cells (width_of p i) n (height_of p i)) top b)
 
   -- one component more
-  pub shown_component : {o o₁ o₂ : List ℕ} {at : ℕ} {r₁ r₂ : Progress} (i : ℕ) → Shown (components p plane cells i) at o r₁ o₁
-      → Shown (component p plane cells i r₁.next) r₁.at o₁ r₂ o₂ → Shown (components p plane cells (i + 1)) at o r₂ o₂
+  pub shown_component : {o o₁ o₂ : List ℕ} {at : ℕ} {r₁ r₂ : Progress} (i : ℕ) → Shown (components p kind cells i) at o r₁ o₁
+      → Shown (component p kind cells i r₁.next) r₁.at o₁ r₂ o₂ → Shown (components p kind cells (i + 1)) at o r₂ o₂
   unfolding components
-  shown_component i a b = rw add-one (shown_also (component p plane cells i) a b)
+  shown_component i a b = rw add-one (shown_also (component p kind cells i) a b)
 
 -- ---- from the beginning
 

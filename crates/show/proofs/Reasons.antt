@@ -8,13 +8,9 @@ use native.Mathlib.Nat.{pow-le-pow_right}
 use native.Mathlib.Numerals.{add-one}
 use native.Mathlib.Omega.{arith}
 use borrow.Author.Tests.{lt-ltb, le-ltb, eq-eqb, ne_eqb}
-use lib.ListN.{length, take, replicate, length-append}
-use lib.Seq.{take-append_seam}
 use Rattle.io.specs.Digits.{last_digits, hex_digit_ascii, IsDigitCount}
 use Rattle.rows.specs.Rows.{ample}
-use Rattle.rows.specs.declared.Field.{Field}
 use Rattle.fields.specs.Letters.{ascii}
-use Rattle.fields.specs.Names.{name_of}
 use Rattle.reasons.specs.declared.Why.{Why}
 use Rattle.show.specs.Buffer.{Put}
 use Rattle.show.specs.Why.{numeral, expected, coarsest_line, coarsest_of, coarsest_lines}
@@ -56,16 +52,6 @@ module _ {at r : ℕ} {o o' : List ℕ} (code : Bool) (least most : ℕ) where
   pub both_ends : (least ≡ most → ⊥) → (most ≡ ample → ⊥) → Put (numeral code least ++ (ascii " to " ++ numeral code most)) at o r o'
       → Put (expected code least most) at o r o'
   both_ends n m p = rw (ne_eqb least most n, ne_eqb most ample m) p
-
--- ---- names
-
--- a name is what its size takes of the letters, and there are enough
-module _ (f : Field) {letters : List ℕ} {size : ℕ} (long : size ≡ length (name_of f)) (are : letters ≡ name_of f ++ replicate (40 - length (name_of f)) 0) where
-  pub name_taken : take size letters ≡ name_of f
-  name_taken = (λ i. take (long i) (are i)) ∙ take-append_seam (name_of f) (replicate (40 - length (name_of f)) 0)
-
-  pub name_fits : size ≤ length letters
-  name_fits = omega (arith, long, ap length are, length-append (name_of f) (replicate (40 - length (name_of f)) 0))
 
 -- ---- a page that is read
 

@@ -2,11 +2,10 @@
 use mathlib.Core.List.{[], ◌∷◌}
 use mathlib.Core.Path.{◌≡◌, refl}
 use lib.ListN.{replicate}
-use Rattle.rows.specs.Rows.{check, place_of, ample}
+use Rattle.rows.specs.Rows.{check, place_of, ample, Fine, Refused}
 use Rattle.rows.specs.declared.Check.{Check}
 use Rattle.rows.specs.declared.Field.TheVariants.{Bw, Next, Tcom, Work, Precinct, Counts}
 use Rattle.rows.specs.declared.Row.TheVariants.{Cut, Marker, Value, Lent, Length}
-use Rattle.rows.specs.declared.Verdict.TheVariants.{Fine, Refused}
 use Rattle.fields.specs.Letters.{ascii}
 use Rattle.reasons.specs.declared.Why.{Why}
 use Rattle.show.specs.Text.{digits_of}

@@ -7,8 +7,6 @@ use Rattle.io.specs.Digits.{hex_digit_ascii}
 use Rattle.fields.specs.Letters.{ascii}
 use Rattle.pieces.specs.declared.Bytes.{Bytes}
 use Rattle.reader.specs.declared.page.Page.{Page}
-use Rattle.show.specs.declared.Plane.{Plane}
-use Rattle.show.specs.declared.Plane.TheVariants.{Samples, Marks, Distances}
 
 -- ---- words and numbers, in ASCII
 
@@ -46,18 +44,17 @@ bytes_text b =
 
 -- ---- the planes of a page: samples, marks, and distances
 
--- the cells of a plane, of `words` and `marks` that are lent: samples and distances are words
-abbrev pub cells_of : Plane → List ℕ → List ℕ → List ℕ
-cells_of Samples words marks = words
-cells_of Marks words marks = marks
-cells_of Distances words marks = words
+pub data Kind : Type 0 where
+  Samples : Kind
+  Marks : Kind
+  Distances : Kind
 
 -- a single space between two cells of a row
 abbrev pub space : ℕ → List ℕ
 space x = cond (eqb x 0) [] (ascii " ")
 
 -- what stands before cell x of a row: samples and distances are 'separated by single spaces', marks are 'digits without spaces'
-abbrev pub gap : Plane → ℕ → List ℕ
+abbrev pub gap : Kind → ℕ → List ℕ
 gap Samples x = space x
 gap Marks x = []
 gap Distances x = space x
@@ -72,11 +69,11 @@ Part = List ℕ × ℕ
 abbrev pub also : Part → (ℕ → Part) → Part
 also p f = (p.0 ++ (f p.1).0, (f p.1).1)
 
-module _ (plane : Plane) (cells : List ℕ) where
+module _ (kind : Kind) (cells : List ℕ) where
   -- x cells from `next` on
   unfoldable pub cells_text : ℕ → ℕ → List ℕ
   cells_text next zero = []
-  cells_text next (suc x) = cells_text next x ++ (gap plane x ++ decimal (get_or cells (next + x) 0))
+  cells_text next (suc x) = cells_text next x ++ (gap kind x ++ decimal (get_or cells (next + x) 0))
 
   abbrev pub row_text : ℕ → ℕ → List ℕ
   row_text next width = cells_text next width ++ ascii "\n"
@@ -109,18 +106,18 @@ module _ (p : Page) where
       ++ (field (ascii " height ") (height_of i) ++ (field (ascii " distance ") (distance_of i) ++ ascii "\n")))
 
   -- the line above the rows of component i
-  abbrev pub title : Plane → ℕ → List ℕ
+  abbrev pub title : Kind → ℕ → List ℕ
   title Samples i = heading i
   title Marks i = line (ascii "marks ") i
   title Distances i = line (ascii "distances ") i
 
-  module _ (plane : Plane) (cells : List ℕ) where
+  module _ (kind : Kind) (cells : List ℕ) where
     -- component i, where the page has it
     abbrev pub component : ℕ → ℕ → Part
     component i next =
         cond
         (ltb i p.components)
-        (also (title plane i, next) (λ n. rows plane cells (width_of i) n (height_of i)))
+        (also (title kind i, next) (λ n. rows kind cells (width_of i) n (height_of i)))
         ([], next)
 
     -- the components before i

@@ -1,14 +1,12 @@
 -- Request C-19's text, line by line: of a refused page the field whose rule is broken, what was found there and what is expected; of one that is read, where each
 -- component is coarsest.
-use Rattle.std.specs.Prelude.{Bool, cond, List, [], ◌++◌, ℕ, zero, suc, ltb, eqb, get_or}
+use Rattle.std.specs.Prelude.{Bool, cond, List, [], ◌++◌, ℕ, zero, suc, ltb, eqb, get_or, Ok, Err}
 use Rattle.io.specs.Digits.{last_digits}
-use Rattle.rows.specs.Rows.{answer, ample}
+use Rattle.rows.specs.Rows.{answer, ample, Verdict}
 use Rattle.rows.specs.declared.Check.{Check}
 use Rattle.rows.specs.declared.Field.{Field}
 use Rattle.rows.specs.declared.Row.{Row}
 use Rattle.rows.specs.declared.Row.TheVariants.{Cut, Marker, Value, Lacking, Lent, Length, Count, Mode}
-use Rattle.rows.specs.declared.Verdict.{Verdict}
-use Rattle.rows.specs.declared.Verdict.TheVariants.{Fine, Refused}
 use Rattle.fields.specs.Letters.{ascii}
 use Rattle.fields.specs.Names.{name_of, codes}
 use Rattle.reasons.specs.declared.Why.{Why}
@@ -94,8 +92,8 @@ module _ (w : Why) where
 
 -- what follows the answer
 abbrev pub reason_text : Verdict → Why → List ℕ
-reason_text Fine w = coarsest_lines w 4
-reason_text (Refused c) w = check_text c
+reason_text (Ok _) w = coarsest_lines w 4
+reason_text (Err c) w = check_text c
 
 unfoldable pub why_text : Why → List ℕ
 why_text w = answer_line (answer w.verdict) w.place ++ reason_text w.verdict w

@@ -6,9 +6,10 @@
 pub mod modes;
 pub mod why;
 
-ghost use Rattle.std.specs.Prelude.{[], ◌∷◌, ◌≡◌, ◌+◌, ◌<◌, ◌≤◌, leb, length, get_or};
+ghost use Rattle.std.specs.Prelude.{[], ◌∷◌, ◌≡◌, ◌+◌, ◌<◌, ◌≤◌, length, get_or};
 ghost use Rattle.io.specs.Counts.{IsPrefixLen};
-ghost use Rattle.show.specs.Text.{decimal, field, line, answer_line, cells_of, gap, row_text, next_row, rows, heading, title, component, components};
+ghost use Rattle.show.specs.Planes.{cells_of, kind_of};
+ghost use Rattle.show.specs.Text.{decimal, field, line, answer_line, gap, row_text, next_row, rows, heading, title, component, components};
 ghost use Rattle.show.specs.Text.{page_text, damaged_text, distances_text, bytes_text};
 ghost use Rattle.show.specs.Buffer.{Put, Shown, PageText, DamagedText, PlacesText, DamagedPlacesText, CountedText};
 
@@ -31,10 +32,8 @@ pub fn put(out: &mut [u8], from: usize, bytes: &[u8]) -> usize
     ensures { Put bytes.now from out.old result out.new }
 {
     let mut at = from;
-    let mut i = 0;
-    while i < bytes.len() {
-        at = put_byte(out, at, bytes[i]);
-        i += 1;
+    for b in bytes {
+        at = put_byte(out, at, *b);
     }
     at
 }
@@ -73,78 +72,55 @@ fn put_answer(out: &mut [u8], answer: u64, place: u64) -> usize
 
 // What stands in rows, component by component: the samples, the marks of those that are lost, or the distance of each.
 #[derive(Clone, Copy)]
-enum Plane {
-    Samples,
-    Marks,
-    Distances,
+enum Plane<'a> {
+    Samples(&'a [u16]),
+    Marks(&'a [u8]),
+    Distances(&'a [u16]),
 }
 
-fn wide(x: u16) -> u64
-    ensures { result ≡ x }
-{
-    x as u64
-}
-
-fn wide_mark(x: u8) -> u64
-    ensures { result ≡ x }
-{
-    x as u64
-}
-
-// How many cells a plane has. Words and marks go together through what follows, since a slice is of one type; samples and distances are words.
-fn size_of(plane: Plane, words: &[u16], marks: &[u8]) -> usize
-    ensures { result ≡ length (cells_of plane words.now marks.now) }
-{
-    match plane {
-        Plane::Samples | Plane::Distances => words.len(),
-        Plane::Marks => marks.len(),
+impl Plane<'_> {
+    fn len(self) -> usize
+        ensures { result ≡ length (cells_of self.entry) }
+    {
+        match self {
+            Plane::Samples(words) | Plane::Distances(words) => words.len(),
+            Plane::Marks(marks) => marks.len(),
+        }
     }
-}
 
-fn cell(plane: Plane, words: &[u16], marks: &[u8], at: usize) -> u64
-    requires { at < length (cells_of plane words.now marks.now) }
-    ensures { result ≡ get_or (cells_of plane words.now marks.now) at 0 }
-{
-    match plane {
-        Plane::Samples | Plane::Distances => wide(words[at]),
-        Plane::Marks => wide_mark(marks[at]),
+    fn cell(self, at: usize) -> u64
+        requires { at < length (cells_of self) }
+        ensures { result ≡ get_or (cells_of self.entry) at 0 }
+    {
+        match self {
+            Plane::Samples(words) | Plane::Distances(words) => u64::from(words[at]),
+            Plane::Marks(marks) => u64::from(marks[at]),
+        }
     }
 }
 
 // The space before cell x of a row, which the first has not. Marks have none.
 fn put_gap(out: &mut [u8], at: usize, plane: Plane, x: usize) -> usize
-    ensures { Put (gap plane x) at out.old result out.new }
+    ensures { Put (gap (kind_of plane.entry) x) at out.old result out.new }
 {
+    if x == 0 {
+        return at;
+    }
     match plane {
-        Plane::Samples | Plane::Distances => {
-            if x == 0 {
-                return at;
-            }
-            put_byte(out, at, b' ')
-        }
-        Plane::Marks => at,
+        Plane::Samples(_) | Plane::Distances(_) => put_byte(out, at, b' '),
+        Plane::Marks(_) => at,
     }
 }
 
 // One row: `width` cells from `next` on.
-fn put_row(
-    out: &mut [u8],
-    from: usize,
-    plane: Plane,
-    words: &[u16],
-    marks: &[u8],
-    next: usize,
-    width: usize,
-) -> usize
-    requires { next + width ≤ length (cells_of plane words.now marks.now) }
-    ensures { Put (row_text plane (cells_of plane words.now marks.now) next width) from out.old result out.new }
+fn put_row(out: &mut [u8], from: usize, plane: Plane, next: usize, width: usize) -> usize
+    requires { next + width ≤ length (cells_of plane) }
+    ensures { Put (row_text (kind_of plane.entry) (cells_of plane.entry) next width) from out.old result out.new }
 {
     let mut at = from;
-    let mut x = 0;
-    while x < width {
+    for x in 0..width {
         let gap = put_gap(out, at, plane, x);
-        at = put_number(out, gap, cell(plane, words, marks, next + x));
-        x += 1;
+        at = put_number(out, gap, plane.cell(next + x));
     }
     put_byte(out, at, b'\n')
 }
@@ -156,56 +132,26 @@ struct Progress {
     next: usize,
 }
 
-fn fits(room: usize, from: usize, width: usize) -> bool
-    ensures { result ≡ leb (from + width) room }
-{
-    if room < from {
-        return false;
-    }
-    if room - from < width {
-        return false;
-    }
-    true
-}
-
 // The row of `width` cells from `p.next` on, where there are so many.
-fn put_next_row(
-    out: &mut [u8],
-    p: Progress,
-    plane: Plane,
-    words: &[u16],
-    marks: &[u8],
-    width: usize,
-) -> Progress
-    ensures { Shown (next_row plane (cells_of plane words.now marks.now) width p.next) p.at out.old result out.new }
+fn put_next_row(out: &mut [u8], p: Progress, plane: Plane, width: usize) -> Progress
+    ensures { Shown (next_row (kind_of plane.entry) (cells_of plane.entry) width p.next) p.at out.old result out.new }
 {
-    let from = p.next;
-    if fits(size_of(plane, words, marks), from, width) {
-        let next = from + width;
-        return Progress {
-            at: put_row(out, p.at, plane, words, marks, from, width),
+    let all = plane.len();
+    match p.next.checked_add(width) {
+        Some(next) if next <= all => Progress {
+            at: put_row(out, p.at, plane, p.next, width),
             next,
-        };
+        },
+        _ => p,
     }
-    p
 }
 
-fn put_rows(
-    out: &mut [u8],
-    p: Progress,
-    plane: Plane,
-    words: &[u16],
-    marks: &[u8],
-    width: usize,
-    height: usize,
-) -> Progress
-    ensures { Shown (rows plane (cells_of plane words.now marks.now) width p.next height) p.at out.old result out.new }
+fn put_rows(out: &mut [u8], p: Progress, plane: Plane, width: usize, height: usize) -> Progress
+    ensures { Shown (rows (kind_of plane.entry) (cells_of plane.entry) width p.next height) p.at out.old result out.new }
 {
     let mut done = p;
-    let mut y = 0;
-    while y < height {
-        done = put_next_row(out, done, plane, words, marks, width);
-        y += 1;
+    for y in 0..height {
+        done = put_next_row(out, done, plane, width);
     }
     done
 }
@@ -224,27 +170,19 @@ fn put_heading(out: &mut [u8], at: usize, page: Page, i: usize) -> usize
 // The line above the rows of component i.
 fn put_title(out: &mut [u8], at: usize, plane: Plane, page: Page, i: usize) -> usize
     requires { i < 4 }
-    ensures { Put (title page plane i) at out.old result out.new }
+    ensures { Put (title page (kind_of plane.entry) i) at out.old result out.new }
 {
     match plane {
-        Plane::Samples => put_heading(out, at, page, i),
-        Plane::Marks => put_line(out, at, b"marks ", i as u64),
-        Plane::Distances => put_line(out, at, b"distances ", i as u64),
+        Plane::Samples(_) => put_heading(out, at, page, i),
+        Plane::Marks(_) => put_line(out, at, b"marks ", i as u64),
+        Plane::Distances(_) => put_line(out, at, b"distances ", i as u64),
     }
 }
 
 // Component i, where the page has so many: its title, and its rows.
-fn put_component(
-    out: &mut [u8],
-    p: Progress,
-    plane: Plane,
-    words: &[u16],
-    marks: &[u8],
-    page: Page,
-    i: usize,
-) -> Progress
+fn put_component(out: &mut [u8], p: Progress, plane: Plane, page: Page, i: usize) -> Progress
     requires { i < 4 }
-    ensures { Shown (component page plane (cells_of plane words.now marks.now) i p.next) p.at out.old result out.new }
+    ensures { Shown (component page (kind_of plane.entry) (cells_of plane.entry) i p.next) p.at out.old result out.new }
 {
     if page.components <= i {
         return p;
@@ -253,32 +191,15 @@ fn put_component(
         at: put_title(out, p.at, plane, page, i),
         next: p.next,
     };
-    put_rows(
-        out,
-        rows,
-        plane,
-        words,
-        marks,
-        page.width[i],
-        page.height[i],
-    )
+    put_rows(out, rows, plane, page.width[i], page.height[i])
 }
 
-fn put_components(
-    out: &mut [u8],
-    from: usize,
-    plane: Plane,
-    words: &[u16],
-    marks: &[u8],
-    page: Page,
-) -> Progress
-    ensures { Shown (components page plane (cells_of plane words.now marks.now) 4) from out.old result out.new }
+fn put_components(out: &mut [u8], from: usize, plane: Plane, page: Page) -> Progress
+    ensures { Shown (components page (kind_of plane.entry) (cells_of plane.entry) 4) from out.old result out.new }
 {
     let mut done = Progress { at: from, next: 0 };
-    let mut i = 0;
-    while i < 4 {
-        done = put_component(out, done, plane, words, marks, page, i);
-        i += 1;
+    for i in 0..4 {
+        done = put_component(out, done, plane, page, i);
     }
     done
 }
@@ -288,7 +209,7 @@ fn put_page(out: &mut [u8], p: Page, samples: &[u16]) -> usize
     ensures { Put (page_text p samples.now) 0 out.old result out.new }
 {
     let a = put_answer(out, p.answer as u64, p.place as u64);
-    let done = put_components(out, a, Plane::Samples, samples, b"", p);
+    let done = put_components(out, a, Plane::Samples(samples), p);
     done.at
 }
 
@@ -297,7 +218,7 @@ fn put_damaged(out: &mut [u8], p: Page, samples: &[u16], marks: &[u8]) -> usize
     ensures { Put (damaged_text p samples.now marks.now) 0 out.old result out.new }
 {
     let a = put_page(out, p, samples);
-    let done = put_components(out, a, Plane::Marks, samples, marks, p);
+    let done = put_components(out, a, Plane::Marks(marks), p);
     done.at
 }
 
@@ -305,7 +226,7 @@ fn put_damaged(out: &mut [u8], p: Page, samples: &[u16], marks: &[u8]) -> usize
 fn put_distances(out: &mut [u8], at: usize, p: Page, distances: &[u16]) -> usize
     ensures { Put (distances_text p distances.now) at out.old result out.new }
 {
-    let done = put_components(out, at, Plane::Distances, distances, b"", p);
+    let done = put_components(out, at, Plane::Distances(distances), p);
     done.at
 }
 

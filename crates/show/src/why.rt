@@ -74,13 +74,8 @@ fn tells_of(row: Row) -> Tells
 {
     match row {
         Row::Cut => Tells::Bytes,
-        Row::Marker => Tells::Values,
-        Row::Value => Tells::Values,
-        Row::Lacking => Tells::Values,
         Row::Lent => Tells::Cells,
-        Row::Length => Tells::Values,
-        Row::Count => Tells::Values,
-        Row::Mode => Tells::Values,
+        _ => Tells::Values,
     }
 }
 
@@ -114,11 +109,8 @@ fn put_number_lines(
 fn put_field_line(out: &mut [u8], at: usize, f: Field) -> usize
     ensures { Put (field_line f) at out.old result out.new }
 {
-    let name = fields::name(f);
-    let letters = name.letters;
-    let size = name.size;
     let start = put(out, at, b"field ");
-    let end = put(out, start, &letters[..size]);
+    let end = put(out, start, fields::name(f).as_bytes());
     put_byte(out, end, b'\n')
 }
 
@@ -164,10 +156,8 @@ fn put_coarsest(out: &mut [u8], from: usize, w: Why) -> usize
     ensures { Put (coarsest_lines w 4) from out.old result out.new }
 {
     let mut at = from;
-    let mut i = 0;
-    while i < 4 {
+    for i in 0..4 {
         at = put_coarsest_of(out, at, w, i);
-        i += 1;
     }
     at
 }
@@ -177,8 +167,8 @@ fn put_reason(out: &mut [u8], at: usize, v: Verdict, w: Why) -> usize
     ensures { Put (reason_text v w) at out.old result out.new }
 {
     match v {
-        Verdict::Fine => put_coarsest(out, at, w),
-        Verdict::Refused(c) => put_check(out, at, c),
+        Ok(()) => put_coarsest(out, at, w),
+        Err(c) => put_check(out, at, c),
     }
 }
 

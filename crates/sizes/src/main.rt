@@ -2,7 +2,7 @@
 // many agreed.
 #![tactic(auto)]
 
-ghost use Rattle.std.specs.Prelude.{◌≤◌, ◌<◌, length, IfOk};
+ghost use Rattle.std.specs.Prelude.{◌≤◌, ◌<◌, length};
 ghost use Rattle.std.specs.Io.{ReadsAtMost};
 
 use input::{not_opened, read_full, word};
@@ -10,28 +10,16 @@ use quantiser::scaled_coefficient;
 use std::fs::Files;
 use std::{fs, io};
 
-// A number of the text, and the place behind it and the byte that ends it.
-#[derive(Clone, Copy)]
-struct Word {
-    value: u64,
-    next: usize,
-}
-
-// The four numbers of a line, and the place behind it.
+// The four numbers of a line.
 #[derive(Clone, Copy)]
 struct Line {
     m: u64,
     t: u64,
     v: u64,
     size: u64,
-    next: usize,
 }
 
-fn is_digit(b: u8) -> bool {
-    if b < b'0' { false } else { b <= b'9' }
-}
-
-// The value with one digit more. From 2^32 on it stays as it is: no number of the text is as large.
+// The value with one digit more. From 2^32 on it stays as it is: no number of the text is as large. So no number is refused, as `parse` would.
 fn appended(value: u64, digit: u8) -> u64 {
     if value >> 32 == 0 {
         value * 10 + digit as u64 % 16
@@ -40,75 +28,69 @@ fn appended(value: u64, digit: u8) -> u64 {
     }
 }
 
-fn word_at(text: &[u8], from: usize) -> Word
-    requires { from ≤ length text.now }
-    ensures { (result.next ≤ length text.now) × (from ≤ result.next) × (from < length text.now → from < result.next) }
-{
-    let mut value = 0;
-    let mut i = from;
-    while i < text.len() {
-        let b = text[i];
-        i += 1;
-        if !is_digit(b) {
-            break;
+// The words of a text that are left. A byte that is no digit ends a word.
+#[derive(Drop)]
+struct Words<'a> {
+    left: &'a [u8],
+}
+
+impl Words<'_> {
+    // The number of the next word, and 0 behind the last.
+    fn next_number(&mut self) -> u64
+        ensures { (length self.new.left.now ≤ length self.old.left.now) × (0 < length self.old.left.now → length self.new.left.now < length self.old.left.now) }
+    {
+        let mut value = 0;
+        while let Some((b, left)) = self.left.split_first() {
+            self.left = left;
+            if !b.is_ascii_digit() {
+                break;
+            }
+            value = appended(value, *b);
         }
-        value = appended(value, b);
+        value
     }
-    Word {
-        value: value,
-        next: i,
+
+    // A line ends with its fourth number, wherever that stands.
+    fn next_line(&mut self) -> Line
+        requires { 0 < length self.now.left.now }
+        ensures { length self.new.left.now < length self.old.left.now }
+    {
+        Line {
+            m: self.next_number(),
+            t: self.next_number(),
+            v: self.next_number(),
+            size: self.next_number(),
+        }
     }
 }
 
-fn line_at(text: &[u8], from: usize) -> Line
-    requires { from < length text.now }
-    ensures { (result.next ≤ length text.now) × (from < result.next) }
-{
-    let m = word_at(text, from);
-    let t = word_at(text, m.next);
-    let v = word_at(text, t.next);
-    let size = word_at(text, v.next);
-    Line {
-        m: m.value,
-        t: t.value,
-        v: v.value,
-        size: size.value,
-        next: size.next,
+// Whether M - T planes, of at most 31, carry v, and the quantiser gives the size.
+fn agrees(l: Line) -> bool {
+    if 31 < l.m {
+        return false;
     }
-}
-
-// 1 where M - T planes, of at most 31, carry v, and the quantiser gives the size.
-fn agreed(m: u64, t: u64, v: u64, size: u64) -> usize
-    ensures { result ≤ 1 }
-{
-    if 31 < m {
-        return 0;
+    if l.m <= l.t {
+        return false;
     }
-    if m <= t {
-        return 0;
+    if 1 << (l.m - l.t) <= l.v {
+        return false;
     }
-    if 1 << (m - t) <= v {
-        return 0;
+    if l.size >> 31 != 0 {
+        return false;
     }
-    if size >> 31 != 0 {
-        return 0;
-    }
-    let c = scaled_coefficient(true, m, t, 0, v as i64);
-    if c == size as i64 { 1 } else { 0 }
+    scaled_coefficient(true, l.m, l.t, 0, l.v as i64) == l.size as i64
 }
 
 fn print_line(rt: &impl Print, l: Line) -> io::Result<()> {
     println!(rt; "{} {} {} {} differs", l.m, l.t, l.v, l.size)
 }
 
-fn judged(rt: &impl Print, l: Line) -> io::Result<usize>
-    ensures { IfOk result (λ n. n ≤ 1) }
-{
-    let n = agreed(l.m, l.t, l.v, l.size);
-    if n == 0 {
+fn judged(rt: &impl Print, l: Line) -> io::Result<bool> {
+    let same = agrees(l);
+    if !same {
         print_line(rt, l)?;
     }
-    Ok(n)
+    Ok(same)
 }
 
 fn print_tally(rt: &impl Print, agreed: usize, differing: usize) -> io::Result<()> {
@@ -116,16 +98,17 @@ fn print_tally(rt: &impl Print, agreed: usize, differing: usize) -> io::Result<(
 }
 
 fn compare(rt: &impl Print, lines: &[u8]) -> io::Result<()> {
-    let mut all = 0;
-    let mut count = 0;
-    let mut at = 0;
-    while at < lines.len() {
-        let l = line_at(lines, at);
-        at = l.next;
-        all += judged(rt, l)?;
-        count += 1;
+    let mut words = Words { left: lines };
+    let mut agreed = 0;
+    let mut differing = 0;
+    while !words.left.is_empty() {
+        if judged(rt, words.next_line())? {
+            agreed += 1;
+        } else {
+            differing += 1;
+        }
     }
-    print_tally(rt, all, count - all)
+    print_tally(rt, agreed, differing)
 }
 
 // The file of this name: as much of it as `to` takes. Nothing where it cannot be opened, which standard error then says.

@@ -1,4 +1,5 @@
 -- Byte locality of precincts and slices: what is accepted depends on its own bytes alone, and the walk on slice headers and precinct lengths. Assumes nothing.
+use Rattle.std.specs.Prelude.{Ok, Err}
 use Prim.Native.Nat.{ℕ, ◌+◌, ◌-◌, ◌*◌, ◌/◌, ◌%◌, ◌^◌, ◌≤◌, ◌<◌}
 use mathlib.Core.Path.{◌≡◌, refl, sym, ap, ◌∙◌}
 use mathlib.Core.Bool.{Bool, true, false, cond}
@@ -11,9 +12,7 @@ use Rattle.loops.specs.Run.{Turn, go, stop, run}
 use Rattle.loops.specs.Before.{before}
 use Rattle.loops.proofs.Laws.{Going, begins, goes_on, stops, ends, Kept, run_carries, run_keeps}
 use Rattle.loops.proofs.Follows.{run_follows, go_same, go_stop}
-use Rattle.rows.specs.Rows.{check, ample, first}
-use Rattle.rows.specs.declared.Verdict.{Verdict}
-use Rattle.rows.specs.declared.Verdict.TheVariants.{Fine, Refused}
+use Rattle.rows.specs.Rows.{check, ample, first, Fine, Verdict}
 use Rattle.rows.specs.declared.Row.TheVariants.{Cut, Value, Length, Mode}
 use Rattle.rows.specs.declared.Field.TheVariants.{Lprc, Precinct as PrecinctField, Q, R, D as ModeField, Rest, Lslh, Ysl}
 use Rattle.rows.proofs.Tables.{each_alike}
@@ -92,7 +91,7 @@ module _ {s s' : List ℕ} (c : Setting) (settled : Settled c) (whole : WholeHea
 
       pick : (q : Verdict × List ℤ) → packet s c p g x.0 x.1 x.2 ≡ q → packed s c row column at g x.0 x.1 q ≡ go y
           → (packed s' c row column at g x.0 x.1 (packet s' c (precinct_at s' c row column at) g x.0 x.1 x.2) ≡ go y) × Within y.0
-      pick (Fine, cells) f e =
+      pick (Ok _, cells) f e =
           let slotted : Slotted c p g = record { settled = settled; row = r; column = k; which = l } in
           let own = accepted_alike c p g slotted whole alike (omega arith) x.0 h.0 h.1 x.1 x.2 (λ i. (f i).0) in
           let same : packet s' c (precinct_at s' c row column at) g x.0 x.1 x.2 ≡ (Fine, cells) = (λ i. packet s' c (precinct_at_alike i) g x.0 x.1 x.2) ∙ own.left ∙ f in
@@ -104,7 +103,7 @@ module _ {s s' : List ℕ} (c : Setting) (settled : Settled c) (whole : WholeHea
                 ∙ e,
             (omega (arith, h, next), omega (arith, packet_inside s c p g x.0 x.1 x.2 h.1 (λ i. (f i).0), next)),
           )
-      pick (Refused v, cells) f e = go_stop (sym e)
+      pick (Err v, cells) f e = go_stop (sym e)
 
       by : (any : Bool) → cond any (packed s c row column at g x.0 x.1 (packet s c p g x.0 x.1 x.2)) (go x) ≡ go y
           → (cond any (packed s' c row column at g x.0 x.1 (packet s' c (precinct_at s' c row column at) g x.0 x.1 x.2)) (go x) ≡ go y) × Within y.0
@@ -128,8 +127,8 @@ module _ {s s' : List ℕ} (c : Setting) (settled : Settled c) (whole : WholeHea
   precinct_alike top cells cells' e = (λ i. packets_by s' c row column at (first (header_checks_alike top i)) cells) ∙ by (first (header_checks s c row column at top)) e
     where
       by : (v : Verdict) → packets_by s c row column at v cells ≡ (Fine, cells') → packets_by s' c row column at v cells ≡ (Fine, cells')
-      by Fine e = packets_alike cells cells' e
-      by (Refused v) e = clash (λ i. (e i).0)
+      by (Ok _) e = packets_alike cells cells' e
+      by (Err v) e = clash (λ i. (e i).0)
 
 -- ---- a slice
 
@@ -146,8 +145,8 @@ module _ (s : List ℕ) (c : Setting) (t : ℕ) where
   turn_onward a n x h = by (precinct s c (row_of s c t n) (column_in s c t n) x.0 (is_top s c t n) x.2)
     where
       by : (q : Verdict × List ℤ) → Kept (λ (y : State). a ≤ y.0) (λ (q : Left). q.0 ≡ Fine → a ≤ q.1.0) (placed s c t n x q)
-      by (Fine, cells) = omega arith
-      by (Refused k, cells) = λ e. clash e
+      by (Ok _, cells) = omega arith
+      by (Err k, cells) = λ e. clash e
 
   pub run_onward : (left g : ℕ) (x y : State) → run (precinct_turn s c t) (λ y. (Fine, y)) left g x ≡ (Fine, y) → x.0 ≤ y.0
   run_onward left g x y e =
@@ -167,7 +166,7 @@ module _ {s s' : List ℕ} (c : Setting) (settled : Settled c) (whole : WholeHea
     where
       pick : (q : Verdict × List ℤ) → precinct s c (row_of s c t n) (column_in s c t n) x.0 (is_top s c t n) x.2 ≡ q → placed s c t n x q ≡ go y
           → placed s' c t n x (precinct s' c (row_of s' c t n) (column_in s' c t n) x.0 (is_top s' c t n) x.2) ≡ go y
-      pick (Fine, cells) f e =
+      pick (Ok _, cells) f e =
           let row = row_of s c t n in
           let column = column_in s c t n in
           let r = (row_inside c.shape settled.shape t h n l).0 in
@@ -176,7 +175,7 @@ module _ {s s' : List ℕ} (c : Setting) (settled : Settled c) (whole : WholeHea
           (λ i. placed s' c t n x (precinct_alike c settled whole row column x.0 r k own (is_top s c t n) x.2 cells f i))
           ∙ (λ i. let p = precinct_at_alike c settled whole row column x.0 r k own i in go (p.end, raised c p (NL c.shape) x.1, cells))
           ∙ e
-      pick (Refused v, cells) f e = go_stop (sym e)
+      pick (Err v, cells) f e = go_stop (sym e)
 
   -- the precincts of a slice, whose first stands at the state's place
   pub precincts_alike : (x y : State) → precincts s c t x ≡ (Fine, y) → Alike s s' x.0 y.0 → precincts s' c t x ≡ (Fine, y)
@@ -200,13 +199,13 @@ module _ {s s' : List ℕ} (c : Setting) (settled : Settled c) (whole : WholeHea
   slice_alike x y e alike = by _ refl e
     where
       by : (v : Verdict) → first (slice_checks s t x.0) ≡ v → precincts_by s c t v x ≡ (Fine, y) → precincts_by s' c t (first (slice_checks s' t x.0)) x ≡ (Fine, y)
-      by Fine f e =
+      by (Ok _) f e =
           let z : State = (x.0 + slice_header_bytes, x.1, x.2) in
           let on = precincts_onward s c t z y e in
           let header = alike_part x.0 (x.0 + slice_header_bytes) alike (omega arith) on in
           (λ i. precincts_by s' c t (first (slice_checks_alike header t i)) x) ∙ (λ i. precincts_by s' c t (f i) x)
           ∙ precincts_alike z y e (alike_part z.0 y.0 alike (omega arith) (omega arith))
-      by (Refused v) f e = clash (λ i. (e i).0)
+      by (Err v) f e = clash (λ i. (e i).0)
 
 -- ---- the walk by declared lengths
 
@@ -242,7 +241,7 @@ module _ {s s' : List ℕ} (c : Setting) where
   walk_alike t at header lengths = (λ i. walk_by s' c (first (slice_checks_alike header t i)) t at) ∙ by (first (slice_checks s t at))
     where
       by : (v : Verdict) → walk_by s' c v t at ≡ walk_by s c v t at
-      by Fine =
+      by (Ok _) =
           run_alongside (walk_turn s c) (walk_turn s' c) (λ y. (Fine, y)) (Np c.shape t) (at + slice_header_bytes)
           (λ n l. walk_turn_alike n (precinct_place s c at n) (lengths n l))
-      by (Refused k) = refl
+      by (Err k) = refl

@@ -12,7 +12,7 @@ use lib.ListN.{length, get_or}
 use Rattle.whole.specs.Cells.{cell}
 use Rattle.loops.specs.Before.{before}
 use Rattle.loops.proofs.Before.{before_carries}
-use Rattle.rows.specs.declared.Verdict.TheVariants.{Fine}
+use Rattle.rows.specs.Rows.{Fine}
 use Rattle.layout.specs.Bands.{NL, band}
 use Rattle.layout.specs.Precincts.{Npx, Np, slices, slice_top, first_x, Member, row_with, slice_with, column_with, number_with}
 use Rattle.layout.specs.Cells.{start, cell as place}

@@ -7,7 +7,7 @@ use native.Mathlib.Decide.{dec_lt}
 use native.Mathlib.Omega.{arith}
 use lib.ListN.{length, get_or}
 use Rattle.loops.proofs.Before.{before_carries}
-use Rattle.rows.specs.declared.Verdict.TheVariants.{Fine}
+use Rattle.rows.specs.Rows.{Fine}
 use Rattle.layout.specs.Bands.{NL}
 use Rattle.layout.specs.Precincts.{Np, slices}
 use Rattle.packets.specs.declared.Setting.{Setting}

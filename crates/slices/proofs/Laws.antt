@@ -1,4 +1,5 @@
 -- What precincts, slices and the stream leave, for the layers above: where a reading ends, which cells it keeps, and the largest T. Assumes nothing.
+use Rattle.std.specs.Prelude.{Ok, Err}
 use Prim.Native.Nat.{ℕ, zero, suc, ◌+◌, ◌/◌, ◌^◌, ◌≤◌, ◌<◌, max}
 use mathlib.Core.Path.{◌≡◌, refl, ap, ◌∙◌}
 use mathlib.Core.Bool.{Bool, true, false, cond}
@@ -11,10 +12,8 @@ use lib.Seq.{get_or-set_same, get_or-set_other}
 use Rattle.whole.specs.Cells.{cell, Bounded}
 use Rattle.loops.specs.Run.{Turn, go}
 use Rattle.loops.proofs.Laws.{Kept, run_keeps}
-use Rattle.rows.specs.Rows.{first}
+use Rattle.rows.specs.Rows.{first, Fine, Verdict}
 use Rattle.rows.proofs.Tables.{held}
-use Rattle.rows.specs.declared.Verdict.{Verdict}
-use Rattle.rows.specs.declared.Verdict.TheVariants.{Fine, Refused}
 use Rattle.layout.specs.Built.{Built}
 use Rattle.layout.specs.Bands.{NL}
 use Rattle.layout.specs.Precincts.{Npx, Npy, Np, slices}
@@ -37,8 +36,8 @@ use Rattle.slices.proofs.SliceLaws.{row_inside, column_inside}
 module _ (s : List ℕ) (c : Setting) (P : List ℤ → Type 0) where
   module _ (row column at : ℕ) (kept : (slot place : ℕ) (raws : List ℕ) (cells : List ℤ) → slot < slots c.shape → P cells → P (packet s c (precinct_at s c row column at) slot place raws cells).1) where
     packed_keeps : (slot place : ℕ) (raws : List ℕ) (x : Verdict × List ℤ) → P x.1 → Kept (λ (y : Packing s c row column at). P y.2) (λ (r : Verdict × List ℤ). P r.1) (packed s c row column at slot place raws x)
-    packed_keeps slot place raws (Fine, cells) h = h
-    packed_keeps slot place raws (Refused k, cells) h = h
+    packed_keeps slot place raws (Ok _, cells) h = h
+    packed_keeps slot place raws (Err k, cells) h = h
 
     pub packet_turn_keeps : (slot : ℕ) (x : Packing s c row column at) → slot < slots c.shape → P x.2 → Kept (λ (y : Packing s c row column at). P y.2) (λ (r : Verdict × List ℤ). P r.1) (packet_turn s c row column at slot x)
     unfolding packet_turn
@@ -53,10 +52,10 @@ module _ (s : List ℕ) (c : Setting) (P : List ℤ → Type 0) where
     precinct_keeps top cells h = by (first (header_checks s c row column at top))
       where
         by : (v : Verdict) → P (packets_by s c row column at v cells).1
-        by Fine =
+        by (Ok _) =
             run_keeps (λ (x : Packing s c row column at). P x.2) (λ (r : Verdict × List ℤ). P r.1) (packet_turn s c row column at) (λ x. (first (rest_checks s c row column at x.0), x.2))
             (slots c.shape) (λ x p. p) (λ g x l p. packet_turn_keeps g x l p) (slots c.shape) 0 (body s c row column at, no_flags s c row column at, cells) (omega arith) h
-        by (Refused k) = h
+        by (Err k) = h
 
   -- the packets of the precincts of slice t
   abbrev pub PacketsKeep : ℕ → Type 0
@@ -69,8 +68,8 @@ module _ (s : List ℕ) (c : Setting) (P : List ℤ → Type 0) where
 
   module _ (built : Built c.shape) (t : ℕ) (l : t < slices c.shape) (kept : PacketsKeep t) where
     placed_keeps : (n : ℕ) (x : State) (y : Verdict × List ℤ) → P y.1 → KeptHere (placed s c t n x y)
-    placed_keeps n x (Fine, cells) h = h
-    placed_keeps n x (Refused k, cells) h = h
+    placed_keeps n x (Ok _, cells) h = h
+    placed_keeps n x (Err k, cells) h = h
 
     precinct_turn_keeps : (n : ℕ) (x : State) → n < Np c.shape t → P x.2 → KeptHere (precinct_turn s c t n x)
     unfolding precinct_turn
@@ -92,12 +91,12 @@ module _ (s : List ℕ) (c : Setting) (P : List ℤ → Type 0) where
     slice_keeps x h = by (first (slice_checks s t x.0))
       where
         by : (v : Verdict) → P (precincts_by s c t v x).1.2
-        by Fine = precincts_keeps (x.0 + slice_header_bytes, x.1, x.2) h
-        by (Refused k) = h
+        by (Ok _) = precincts_keeps (x.0 + slice_header_bytes, x.1, x.2) h
+        by (Err k) = h
 
   sliced_keeps : (y : Left) → P y.1.2 → KeptHere (sliced y)
-  sliced_keeps (Fine, x) h = h
-  sliced_keeps (Refused k, x) h = h
+  sliced_keeps (Ok _, x) h = h
+  sliced_keeps (Err k, x) h = h
 
   pub stream_keeps : Built c.shape → ((t : ℕ) → PacketsKeep t) → (x : State) → P x.2 → P (stream s c x).1.2
   unfolding stream slice_turn
@@ -164,8 +163,8 @@ stream_ends s c x =
     run_keeps (λ (y : State). Unit {0}) (λ (r : Left). r.0 ≡ Fine → r.1.0 ≡ length s) (slice_turn s c) (ended s) (slices c.shape) (λ y p. ended_ends s y) (λ t y l p. refuses (slice s c t y)) (slices c.shape) 0 x (omega arith) tt
   where
     refuses : (l : Left) → Kept (λ (y : State). Unit {0}) (λ (r : Left). r.0 ≡ Fine → r.1.0 ≡ length s) (sliced l)
-    refuses (Fine, z) = tt
-    refuses (Refused k, z) = λ e. clash e
+    refuses (Ok _, z) = tt
+    refuses (Err k, z) = λ e. clash e
 
 -- ---- the largest T: none is above 31
 
@@ -252,8 +251,8 @@ module _ (s : List ℕ) (c : Setting) (P : List ℕ → Type 0) (kept : (p : Pre
   TopsHere u = Kept (λ (y : State). P y.1) (λ (r : Left). P r.1.1) u
 
   placed_tops : (t n : ℕ) (x : State) (y : Verdict × List ℤ) → P x.1 → TopsHere (placed s c t n x y)
-  placed_tops t n x (Fine, cells) h = kept (precinct_at s c (row_of s c t n) (column_in s c t n) x.0) x.1 h
-  placed_tops t n x (Refused k, cells) h = h
+  placed_tops t n x (Ok _, cells) h = kept (precinct_at s c (row_of s c t n) (column_in s c t n) x.0) x.1 h
+  placed_tops t n x (Err k, cells) h = h
 
   pub precincts_tops : (t : ℕ) (x : State) → P x.1 → P (precincts s c t x).1.1
   unfolding precincts precinct_turn
@@ -266,12 +265,12 @@ module _ (s : List ℕ) (c : Setting) (P : List ℕ → Type 0) (kept : (p : Pre
   slice_tops t x h = by (first (slice_checks s t x.0))
     where
       by : (v : Verdict) → P (precincts_by s c t v x).1.1
-      by Fine = precincts_tops t (x.0 + slice_header_bytes, x.1, x.2) h
-      by (Refused k) = h
+      by (Ok _) = precincts_tops t (x.0 + slice_header_bytes, x.1, x.2) h
+      by (Err k) = h
 
   sliced_tops : (y : Left) → P y.1.1 → TopsHere (sliced y)
-  sliced_tops (Fine, x) h = h
-  sliced_tops (Refused k, x) h = h
+  sliced_tops (Ok _, x) h = h
+  sliced_tops (Err k, x) h = h
 
   pub stream_tops : (x : State) → P x.1 → P (stream s c x).1.1
   unfolding stream slice_turn

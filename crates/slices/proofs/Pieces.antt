@@ -1,4 +1,5 @@
 -- The pieces of what is read tile it: a precinct from its header to its end, a slice from its header to the next. Assumes nothing.
+use Rattle.std.specs.Prelude.{Ok, Err}
 use Prim.Native.Nat.{ℕ, ◌+◌, ◌-◌, ◌^◌, ◌≤◌, ◌<◌}
 use mathlib.Core.Bool.{Bool, true, false, cond}
 use mathlib.Core.List.{List, [], ◌∷◌}
@@ -9,9 +10,7 @@ use lib.ListN.{length}
 use Rattle.loops.specs.Run.{go}
 use Rattle.loops.proofs.Along.{each_along}
 use Rattle.loops.proofs.Follows.{go_same, go_stop}
-use Rattle.rows.specs.Rows.{first}
-use Rattle.rows.specs.declared.Verdict.{Verdict}
-use Rattle.rows.specs.declared.Verdict.TheVariants.{Fine, Refused}
+use Rattle.rows.specs.Rows.{first, Fine, Verdict}
 use Rattle.rows.proofs.Tables.{held}
 use Rattle.pieces.specs.declared.Bytes.{Bytes}
 use Rattle.pieces.specs.Pieces.{Piece, Markers, Precincts, Spoilt, alike, total, size, bytes_of, nothing, bytes_by, plus, all}
@@ -45,13 +44,13 @@ module _ (s : List ℕ) (c : Setting) (row column at : ℕ) where
 
   packed_tiles : (slot : ℕ) (x y : Packing s c row column at) → Before x → (r : Verdict × List ℤ) → packet s c own slot x.0 x.1 x.2 ≡ r
       → packed s c row column at slot x.0 x.1 r ≡ go y → Before y × (x.0 + size (packet_pieces s c own slot x.0 x.2) ≡ y.0)
-  packed_tiles slot x y h (Fine, cells) e f =
+  packed_tiles slot x y h (Ok _, cells) e f =
       let fine = ap (λ (r : Verdict × List ℤ). r.0) e in
       let there = ap (λ (z : Packing s c row column at). z.0) (go_same f) in (
         omega (arith, there, packet_inside s c own slot x.0 x.1 x.2 h fine),
         packet_tiles s c own slot x.0 x.2 x.1 fine ∙ there,
       )
-  packed_tiles slot x y h (Refused k, cells) e f = go_stop (sym f)
+  packed_tiles slot x y h (Err k, cells) e f = go_stop (sym f)
 
   pub slot_tiles : (slot : ℕ) (x y : Packing s c row column at) → Before x → packet_turn s c row column at slot x ≡ go y
       → Before y × (x.0 + size (slot_pieces s c row column at slot x) ≡ y.0)
@@ -77,8 +76,8 @@ module _ (s : List ℕ) (c : Setting) (row column at : ℕ) where
   precinct_tiles top cells e = by (first (header_checks s c row column at top)) e
     where
       by : (v : Verdict) → (packets_by s c row column at v cells).0 ≡ Fine → at + size (precinct_pieces s c row column at cells) ≡ own.end
-      by Fine f = packets_tile cells f
-      by (Refused k) f = clash f
+      by (Ok _) f = packets_tile cells f
+      by (Err k) f = clash f
 
 -- the pieces of a slot with a packet, as its reader has the precinct; and of a slot without
 module _ (s : List ℕ) (c : Setting) (row column place slot at : ℕ) (raws : List ℕ) (cells : List ℤ) {p : Precinct} (e : IsPrecinct s c row column place p) where
@@ -110,10 +109,10 @@ module _ (s : List ℕ) (c : Setting) (t : ℕ) where
     where
       by : (r : Verdict × List ℤ) → precinct s c (row_of s c t n) (column_in s c t n) x.0 (is_top s c t n) x.2 ≡ r → placed s c t n x r ≡ go y
           → x.0 + size (placed_pieces s c t n x) ≡ y.0
-      by (Fine, cells) r f =
+      by (Ok _, cells) r f =
           precinct_tiles s c (row_of s c t n) (column_in s c t n) x.0 (is_top s c t n) x.2 (ap (λ (z : Verdict × List ℤ). z.0) r)
           ∙ ap (λ (z : State). z.0) (go_same f)
-      by (Refused k, cells) r f = go_stop (sym f)
+      by (Err k, cells) r f = go_stop (sym f)
 
   -- the precincts, from the first one's place on
   pub precincts_tile : (x y : State) → precincts s c t x ≡ (Fine, y) → x.0 + size (precincts_pieces s c t x) ≡ y.0
@@ -129,16 +128,16 @@ module _ (s : List ℕ) (c : Setting) (t : ℕ) where
   slice_tiles x y e = by (first (slice_checks s t x.0)) e
     where
       by : (v : Verdict) → precincts_by s c t v x ≡ (Fine, y) → x.0 + (slice_header_bytes + size (precincts_pieces s c t (x.0 + slice_header_bytes, x.1, x.2))) ≡ y.0
-      by Fine f = omega (arith, precincts_tile (x.0 + slice_header_bytes, x.1, x.2) y f)
-      by (Refused k) f = clash (ap (λ (r : Left). r.0) f)
+      by (Ok _) f = omega (arith, precincts_tile (x.0 + slice_header_bytes, x.1, x.2) y f)
+      by (Err k) f = clash (ap (λ (r : Left). r.0) f)
 
   pub slice_turn_tiles : (x y : State) → slice_turn s c t x ≡ go y → x.0 + size (slice_pieces s c t x) ≡ y.0
   unfolding slice_turn
   slice_turn_tiles x y e = by (slice s c t x) refl e
     where
       by : (r : Left) → slice s c t x ≡ r → sliced r ≡ go y → x.0 + size (slice_pieces s c t x) ≡ y.0
-      by (Fine, z) r f = slice_tiles x y (r ∙ (λ i. (Fine, go_same f i)))
-      by (Refused k, z) r f = go_stop (sym f)
+      by (Ok _, z) r f = slice_tiles x y (r ∙ (λ i. (Fine, go_same f i)))
+      by (Err k, z) r f = go_stop (sym f)
 
   -- what the precincts of a slice have counted, from the first one's place on
   abbrev pub PrecinctsAdding : State → ℕ → State → Bytes → Type 0
@@ -158,8 +157,8 @@ module _ (s : List ℕ) (c : Setting) (t : ℕ) where
       ps = precincts_pieces s c t (x.0 + slice_header_bytes, x.1, x.2)
 
       by : (v : Verdict) → b ≡ bytes_by v (bytes_of ps) → bytes_by v (plus (bytes_of ((Markers, slice_header_bytes) ∷ [])) b) ≡ bytes_by v (bytes_of ((Markers, slice_header_bytes) ∷ ps))
-      by Fine e = ap (plus (bytes_of ((Markers, slice_header_bytes) ∷ []))) e ∙ sym (bytes_first (Markers, slice_header_bytes) ps)
-      by (Refused k) e = refl
+      by (Ok _) e = ap (plus (bytes_of ((Markers, slice_header_bytes) ∷ []))) e ∙ sym (bytes_first (Markers, slice_header_bytes) ps)
+      by (Err k) e = refl
 
   -- and are few where they end in the stream
   pub precincts_few : (x : State) {r : Reading} {cells' : List ℤ} → Read s (precincts s c t x) (precincts_pieces s c t x) r cells' → length s < 2 ^ 32 → all r.bytes < 2 ^ 32

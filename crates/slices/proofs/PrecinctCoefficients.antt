@@ -11,7 +11,7 @@ use lib.IntN.{ℤ, nat_abs}
 use lib.ListN.{length, get_or}
 use Rattle.whole.specs.Cells.{cell}
 use Rattle.loops.proofs.Before.{before_carries}
-use Rattle.rows.specs.declared.Verdict.TheVariants.{Fine}
+use Rattle.rows.specs.Rows.{Fine}
 use Rattle.quantiser.specs.Inverse.{coefficient_of, scaled, Carried}
 use Rattle.layout.specs.Bands.{NL, Nβ, band, exists}
 use Rattle.layout.specs.Built.{Built}

@@ -1,5 +1,6 @@
 -- What the steps of a precinct rest on: tables whose checks hold, the modes of its header, the turn of a slot. Assumes nothing.
-use Prim.Native.Nat.{ℕ, zero, suc, ◌+◌, ◌*◌, ◌-◌, ◌/◌, ◌%◌, ◌≤◌, ◌<◌, max}
+use Rattle.std.specs.Prelude.{Ok, Err}
+use Prim.Native.Nat.{ℕ, zero, suc, ◌+◌, ◌*◌, ◌-◌, ◌/◌, ◌%◌, ◌≤◌, ◌<◌}
 use mathlib.Core.Path.{◌≡◌, refl, sym, ◌∙◌}
 use mathlib.Core.Bool.{Bool, true, false, not, cond}
 use mathlib.Core.List.{List, [], ◌∷◌}
@@ -9,10 +10,8 @@ use borrow.Author.Tests.{le-ltb}
 use lib.IntN.{ℤ}
 use lib.ListN.{length, set, get_or}
 use Rattle.loops.specs.Run.{go, stop}
-use Rattle.rows.specs.Rows.{check, first, each, then}
+use Rattle.rows.specs.Rows.{check, first, each, then, Fine, Refused, Verdict}
 use Rattle.rows.specs.declared.Check.{Check}
-use Rattle.rows.specs.declared.Verdict.{Verdict}
-use Rattle.rows.specs.declared.Verdict.TheVariants.{Fine, Refused}
 use Rattle.rows.specs.declared.Row.TheVariants.{Mode, Length}
 use Rattle.rows.specs.declared.Field.TheVariants.{D as ModeField, Rest}
 use Rattle.rows.proofs.Tables.{first_append, append_fine, each_fine, held}
@@ -24,11 +23,11 @@ use Rattle.layout.specs.Slots.{candidates}
 use Rattle.layout.proofs.Sums.{header_most}
 use Rattle.packets.specs.declared.Setting.{Setting}
 use Rattle.packets.specs.declared.Precinct.{Precinct}
-use Rattle.packets.specs.Precincts.{D, T}
+use Rattle.packets.specs.Precincts.{D}
 use Rattle.packets.specs.Ready.{Settled, Standing}
 use Rattle.packets.specs.Packets.{any_line, head, past, packet}
 use Rattle.slices.specs.declared.precincts.Flags.{Flags}
-use Rattle.slices.specs.Precinct.{precinct_at, lprc, field_checks, mode_checks, header_checks, packed, packet_turn, rest_checks, packets_by, precinct, holds, raised_by, raised}
+use Rattle.slices.specs.Precinct.{precinct_at, lprc, field_checks, mode_checks, header_checks, packed, packet_turn, rest_checks, packets_by, precinct, raised_by, raised}
 use Rattle.slices.specs.Steps.{Lent, Placed, IsPrecinct, onward, Passed}
 
 -- ---- tables whose checks all hold
@@ -100,8 +99,8 @@ ends_at x = λ i. (x.is i).end
 module _ (s : List ℕ) (c : Setting) (row column place slot at : ℕ) (raws : List ℕ) (cells : List ℤ) {p : Precinct} (e : IsPrecinct s c row column place p) where
   packed_is : (v : Verdict) (cells' : List ℤ) → packed s c row column place slot at raws (v, cells')
       ≡ onward v (past s c (precinct_at s c row column place) slot at) (set raws slot (head s c (precinct_at s c row column place) slot at).dr) cells'
-  packed_is Fine cells' = refl
-  packed_is (Refused k) cells' = refl
+  packed_is (Ok _) cells' = refl
+  packed_is (Err k) cells' = refl
 
   -- the turn of a slot with a packet, from what the packet's decoder answers; and that of a slot without
   pub packet_there : {v : Verdict} {dr next : ℕ} {cells' : List ℤ} → any_line c p slot (candidates c.shape slot) ≡ true
@@ -163,8 +162,8 @@ module _ (s : List ℕ) (c : Setting) (row column at : ℕ) (top : Bool) where
   precinct_inside cells e = by _ refl e
     where
       by : (v : Verdict) → first (header_checks s c row column at top) ≡ v → (packets_by s c row column at v cells).0 ≡ Fine → (precinct_at s c row column at).end ≤ length s
-      by Fine f e = header_inside f
-      by (Refused k) f e = clash e
+      by (Ok _) f e = header_inside f
+      by (Err k) f e = clash e
 
 -- what the packets of an accepted precinct rest on
 pub stands : {s : List ℕ} {c : Setting} {p : Precinct} {top : Bool} {n : ℕ} → Lent s c p.at n → Placed c p top → IsPrecinct s c p.row p.column p.at p
@@ -186,13 +185,6 @@ stands {s} {c} {p} {top} lent placed x e =
     by true t b l there d = absurd (omega (arith, header_modes s c p.row p.column p.at top e t b l there))
 
 -- ---- the largest T of a band
-
-module _ (c : Setting) (p : Precinct) (b top : ℕ) where
-  pub raised_there : {t r : ℕ} → holds c p b ≡ true → t ≡ T c p b → r ≡ max top t → r ≡ raised_by c p b top
-  raised_there h e f = rw (h, ← e) f
-
-  pub raised_not : holds c p b ≡ false → top ≡ raised_by c p b top
-  raised_not h = rw h
 
 pub raised_next : (c : Setting) (p : Precinct) (b : ℕ) (tops : List ℕ) {out : List ℕ} {r : ℕ} → out ≡ raised c p b tops → r ≡ raised_by c p b (get_or tops b 0) → set out b r ≡ raised c p (b + 1) tops
 unfolding raised

@@ -1,5 +1,6 @@
 -- C.6.1, Table C.13: in an accepted slice, and so in an accepted stream, the vertical predictor of a code group is M, and T, of the same group on the band's line directly
 -- above. Row 8 keeps that line in the slice; no line that is read between the two writes over its counts. Assumes nothing.
+use Rattle.std.specs.Prelude.{Ok, Err}
 use Prim.Native.Nat.{ℕ, suc, ◌+◌, ◌-◌, ◌*◌, ◌/◌, ◌%◌, ◌^◌, ◌≤◌, ◌<◌}
 use mathlib.Core.Path.{◌≡◌, refl, sym, ap, ◌∙◌}
 use mathlib.Core.Bool.{Bool, true, false}
@@ -13,9 +14,7 @@ use lib.IntN.{ℤ}
 use lib.ListN.{length}
 use Rattle.whole.specs.Cells.{cell}
 use Rattle.loops.proofs.Before.{before_carries}
-use Rattle.rows.specs.Rows.{first}
-use Rattle.rows.specs.declared.Verdict.{Verdict}
-use Rattle.rows.specs.declared.Verdict.TheVariants.{Fine, Refused}
+use Rattle.rows.specs.Rows.{first, Fine, Verdict}
 use Rattle.layout.specs.Bands.{sy, NL, N'y, depth, band}
 use Rattle.layout.specs.Precincts.{Npx, Npy, Np, slices, first_x, first_y, most_lines, Member}
 use Rattle.layout.specs.Cells.{start, area, cell as place}
@@ -86,8 +85,8 @@ unfolding precinct
 precinct_header s c row column at top cells = by (first (header_checks s c row column at top))
   where
     by : (v : Verdict) → (packets_by s c row column at v cells).0 ≡ Fine → v ≡ Fine
-    by Fine e = refl
-    by (Refused k) e = clash e
+    by (Ok _) e = refl
+    by (Err k) e = clash e
 
 module _ (s : List ℕ) (c : Setting) (settled : Settled c) (t : ℕ) (l : t < slices c.shape) (x : State) (long : NL c.shape ≤ length x.1)
     (room : start c.shape c.shape.nc ≤ length x.2) (fine : (slice s c t x).0 ≡ Fine) (n : ℕ) (below : n < Np c.shape t) {k j : ℕ}

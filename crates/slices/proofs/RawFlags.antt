@@ -1,4 +1,5 @@
 -- C.3 of an accepted precinct, in its own words: where Rl = 0, two packets that have a line of the same band have the same raw flag. Assumes nothing.
+use Rattle.std.specs.Prelude.{Ok, Err}
 use Prim.Native.Nat.{ℕ, ◌+◌, ◌≤◌, ◌<◌}
 use mathlib.Core.Path.{◌≡◌, refl, sym, ◌∙◌}
 use mathlib.Core.Bool.{Bool, true, false, cond}
@@ -9,10 +10,8 @@ use lib.IntN.{ℤ}
 use lib.ListN.{length, get_or, set, length-set}
 use lib.Seq.{get_or-set_same, get_or-set_other}
 use Rattle.loops.proofs.Before.{before_carries}
-use Rattle.rows.specs.Rows.{check, first}
+use Rattle.rows.specs.Rows.{check, first, Fine, Verdict}
 use Rattle.rows.specs.declared.Check.{Check}
-use Rattle.rows.specs.declared.Verdict.{Verdict}
-use Rattle.rows.specs.declared.Verdict.TheVariants.{Fine, Refused}
 use Rattle.rows.specs.declared.Row.TheVariants.{Mode}
 use Rattle.rows.specs.declared.Field.TheVariants.{Dr}
 use Rattle.rows.proofs.Tables.{append_fine, each_fine, held}
@@ -44,8 +43,8 @@ module _ (s : List ℕ) (c : Setting) (p : Precinct) (slot at : ℕ) (raws : Lis
   head_fine = by (first (head_checks s c p slot at raws))
     where
       by : (v : Verdict) → (counts_by s c p slot at v cells).0 ≡ Fine → v ≡ Fine
-      by Fine e = refl
-      by (Refused k) e = clash e
+      by (Ok _) e = refl
+      by (Err k) e = clash e
 
   pub packet_flag : (packet s c p slot at raws cells).0 ≡ Fine → c.rl ≡ false → (k : ℕ) → k < slot → sharing c.shape p.row slot k ≡ true
       → (head s c p slot at).dr ≡ get_or raws k 0

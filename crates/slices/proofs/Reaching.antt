@@ -1,4 +1,5 @@
 -- The states that an accepted reading comes to, slice by slice and precinct by precinct. Assumes nothing.
+use Rattle.std.specs.Prelude.{Ok, Err}
 use Prim.Native.Nat.{ℕ, ◌+◌, ◌<◌}
 use mathlib.Core.Path.{◌≡◌, refl, sym, ap, ◌∙◌}
 use mathlib.Core.Bool.{Bool, true, false, cond}
@@ -8,10 +9,8 @@ use lib.ListN.{set}
 use Rattle.loops.specs.Run.{Turn, go, stop}
 use Rattle.loops.proofs.Before.{Turns, run_turns}
 use Rattle.loops.proofs.Follows.{go_stop}
-use Rattle.rows.specs.Rows.{first}
+use Rattle.rows.specs.Rows.{first, Fine, Refused, Verdict}
 use Rattle.rows.specs.declared.Check.{Check}
-use Rattle.rows.specs.declared.Verdict.{Verdict}
-use Rattle.rows.specs.declared.Verdict.TheVariants.{Fine, Refused}
 use Rattle.layout.specs.Bands.{NL}
 use Rattle.layout.specs.Precincts.{Np, slices}
 use Rattle.layout.specs.Slots.{slots, candidates}
@@ -44,8 +43,8 @@ pub record PacketFollows (s : List ℕ) (c : Setting) (row column at : ℕ) (cel
 
 module _ (s : List ℕ) (c : Setting) (row column at : ℕ) where
   packed_stops : (k place : ℕ) (raws : List ℕ) (y r : Verdict × List ℤ) → packed s c row column at k place raws y ≡ stop r → r.0 ≡ Fine → ⊥
-  packed_stops k place raws (Fine, l) r e f = go_stop e
-  packed_stops k place raws (Refused q, l) r e f = stop_refuses e f
+  packed_stops k place raws (Ok _, l) r e f = go_stop e
+  packed_stops k place raws (Err q, l) r e f = stop_refuses e f
 
   -- a slot that stops refuses
   pub packet_stops : (k : ℕ) (x : Packing s c row column at) (r : Verdict × List ℤ) → packet_turn s c row column at k x ≡ stop r → r.0 ≡ Fine → ⊥
@@ -68,12 +67,12 @@ module _ (s : List ℕ) (c : Setting) (row column at : ℕ) (top : Bool) (cells 
     where
       by : (v : Verdict) → (packets_by s c row column at v cells).0 ≡ Fine
           → EachPacket × ((packets_by s c row column at v cells).1 ≡ (before_packet s c row column at cells (slots c.shape)).2)
-      by Fine e =
+      by (Ok _) e =
           let q =
           run_turns (packet_turn s c row column at) (body s c row column at, no_flags s c row column at, cells) (λ (r : Verdict × List ℤ). r.0 ≡ Fine)
           (λ x. (first (rest_checks s c row column at x.0), x.2)) (slots c.shape) (λ g r. packet_stops s c row column at g (before_packet s c row column at cells g) r) e in
           (q, ap (λ (r : Verdict × List ℤ). r.1) q.ends)
-      by (Refused k) e = clash e
+      by (Err k) e = clash e
 
   -- the precinct ends where they do
   pub precinct_left : (precinct s c row column at top cells).1 ≡ (before_packet s c row column at cells (slots c.shape)).2
@@ -90,12 +89,12 @@ module _ (s : List ℕ) (c : Setting) (row column at : ℕ) (top : Bool) (cells 
       by : (z : Verdict × List ℤ) → packet_reads s c row column at cells k ≡ z
           → packed s c row column at k (before_packet s c row column at cells k).0 (before_packet s c row column at cells k).1 z ≡ go (before_packet s c row column at cells (k + 1))
           → PacketFollows s c row column at cells k
-      by (Fine, l') r e =
+      by (Ok _, l') r e =
           let place = past s c (precinct_at s c row column at) k (before_packet s c row column at cells k).0 in
           let flags = set (before_packet s c row column at cells k).1 k (raw_flag s c row column at cells k) in
           let q : (place, flags, l') ≡ before_packet s c row column at cells (k + 1) = cc in
           record { accepted = ap (λ (z : Verdict × List ℤ). z.0) r; next = sym q ∙ (λ i. (place, flags, (sym r i).1)) }
-      by (Refused q, l') r e = go_stop (sym e)
+      by (Err q, l') r e = go_stop (sym e)
 
   -- and one without
   pub precinct_empty : (k : ℕ) → k < slots c.shape → any_line c (precinct_at s c row column at) k (candidates c.shape k) ≡ false
@@ -123,8 +122,8 @@ unfolding precinct_turn
 precinct_stops s c t n y r = by (precinct s c (row_of s c t n) (column_in s c t n) y.0 (is_top s c t n) y.2)
   where
     by : (z : Verdict × List ℤ) → placed s c t n y z ≡ stop r → r.0 ≡ Fine → ⊥
-    by (Fine, l) e f = go_stop e
-    by (Refused k, l) e f = stop_refuses e f
+    by (Ok _, l) e f = go_stop e
+    by (Err k, l) e f = stop_refuses e f
 
 module _ (s : List ℕ) (c : Setting) (t : ℕ) (x : State) (fine : (slice s c t x).0 ≡ Fine) where
   abbrev EachPrecinct : Type 0
@@ -135,12 +134,12 @@ module _ (s : List ℕ) (c : Setting) (t : ℕ) (x : State) (fine : (slice s c t
   precinct_turns = by (first (slice_checks s t x.0)) fine
     where
       by : (v : Verdict) → (precincts_by s c t v x).0 ≡ Fine → EachPrecinct × ((precincts_by s c t v x).1 ≡ before_precinct s c x t (Np c.shape t))
-      by Fine e =
+      by (Ok _) e =
           let q =
           run_turns (precinct_turn s c t) (x.0 + slice_header_bytes, x.1, x.2) (λ (r : Left). r.0 ≡ Fine) (λ y. (Fine, y)) (Np c.shape t)
           (λ g r. precinct_stops s c t g (before_precinct s c x t g) r) e in
           (q, ap (λ (r : Left). r.1) q.ends)
-      by (Refused k) e = clash e
+      by (Err k) e = clash e
 
   -- the slice ends where they do
   pub slice_left : (slice s c t x).1 ≡ before_precinct s c x t (Np c.shape t)
@@ -152,19 +151,19 @@ module _ (s : List ℕ) (c : Setting) (t : ℕ) (x : State) (fine : (slice s c t
     where
       by : (z : Verdict × List ℤ) → slice_reads s c x t n ≡ z → placed s c t n (before_precinct s c x t n) z ≡ go (before_precinct s c x t (n + 1))
           → Follows s c x t n
-      by (Fine, l') r e =
+      by (Ok _, l') r e =
           let p = slice_has s c x t n in
           let tops = raised c p (NL c.shape) (before_precinct s c x t n).1 in
           let q : (p.end, tops, l') ≡ before_precinct s c x t (n + 1) = cc in
           record { accepted = ap (λ (z : Verdict × List ℤ). z.0) r; next = sym q ∙ (λ i. (p.end, tops, (sym r i).1)) }
-      by (Refused k, l') r e = go_stop (sym e)
+      by (Err k, l') r e = go_stop (sym e)
 
 -- ---- the slices of an accepted stream
 
 -- one that stops refuses
 pub slice_stops : (y r : Left) → sliced y ≡ stop r → r.0 ≡ Fine → ⊥
-slice_stops (Fine, z) r e f = go_stop e
-slice_stops (Refused k, z) r e f = stop_refuses e f
+slice_stops (Ok _, z) r e f = go_stop e
+slice_stops (Err k, z) r e f = stop_refuses e f
 
 module _ (s : List ℕ) (c : Setting) (x : State) (fine : (stream s c x).0 ≡ Fine) where
   slice_turns : Turns (slice_turn s c) x (ended s) (slices c.shape)
@@ -184,7 +183,7 @@ module _ (s : List ℕ) (c : Setting) (x : State) (fine : (stream s c x).0 ≡ F
   stream_slice t l = by (slice s c t (before_slice s c x t)) (slice_turns.goes t l)
     where
       by : (z : Left) → sliced z ≡ go (before_slice s c x (t + 1)) → z ≡ (Fine, before_slice s c x (t + 1))
-      by (Fine, y) e =
+      by (Ok _, y) e =
           let q : y ≡ before_slice s c x (t + 1) = cc in
           λ i. (Fine, q i)
-      by (Refused k, y) e = go_stop (sym e)
+      by (Err k, y) e = go_stop (sym e)

@@ -1,5 +1,6 @@
 -- Cell locality of precincts and slices: verdict, place and cells depend, at a kind of cells that has all that the slice reads, on what stood there alone.
 -- Assumes nothing.
+use Rattle.std.specs.Prelude.{Ok, Err}
 use Prim.Native.Nat.{ℕ, ◌+◌, ◌*◌, ◌/◌, ◌%◌, ◌<◌}
 use mathlib.Core.Path.{◌≡◌, refl, subst}
 use mathlib.Core.Bool.{Bool, true, false, cond}
@@ -11,9 +12,7 @@ use lib.ListN.{set}
 use Rattle.whole.specs.Cells.{Same}
 use Rattle.loops.specs.Run.{go}
 use Rattle.loops.proofs.Follows.{Both, run_both}
-use Rattle.rows.specs.Rows.{first}
-use Rattle.rows.specs.declared.Verdict.{Verdict}
-use Rattle.rows.specs.declared.Verdict.TheVariants.{Fine, Refused}
+use Rattle.rows.specs.Rows.{first, Fine, Verdict}
 use Rattle.bits.specs.Groups.{Ng}
 use Rattle.layout.specs.Bands.{NL, band_exists}
 use Rattle.layout.specs.Precincts.{Npx, Npy, Np, slices, slice_top}
@@ -47,12 +46,12 @@ module _ (P : ℕ → Type 0) where
         subst (λ (v : Verdict). Both SamePacking Agree (packed s c row column at slot m u (x, a)) (packed s c row column at slot n w (v, b))) g (by x)
       where
         by : (x : Verdict) → Both SamePacking Agree (packed s c row column at slot m u (x, a)) (packed s c row column at slot n w (x, b))
-        by Fine = (
+        by (Ok _) = (
           (λ i. past s c (precinct_at s c row column at) slot (e i)),
           (λ i. set (f i) slot (head s c (precinct_at s c row column at) slot (e i)).dr),
           same,
         )
-        by (Refused k) = (refl, same)
+        by (Err k) = (refl, same)
 
     module _ (reach : (slot : ℕ) → slot < slots c.shape → Reaches P s c (precinct_at s c row column at) slot) where
       packet_turn_same : (slot : ℕ) (x y : Packing s c row column at) → slot < slots c.shape → SamePacking x y
@@ -89,8 +88,8 @@ module _ (P : ℕ → Type 0) where
     precinct_same top reach a b same = by _ refl
       where
         by : (v : Verdict) → first (header_checks s c row column at top) ≡ v → Agree (packets_by s c row column at v a) (packets_by s c row column at v b)
-        by Fine e = packets_same (reach e) a b same
-        by (Refused k) e = (refl, same)
+        by (Ok _) e = packets_same (reach e) a b same
+        by (Err k) e = (refl, same)
 
 -- ---- a slice
 
@@ -137,8 +136,8 @@ module _ (P : ℕ → Type 0) (s : List ℕ) (c : Setting) (settled : Settled c)
   placed_same n x y v w a b e f same = subst (λ (u : Verdict). Both (SameState P) (SameLeft P) (placed s c t n x (v, a)) (placed s c t n y (u, b))) f (by v)
     where
       by : (v : Verdict) → Both (SameState P) (SameLeft P) (placed s c t n x (v, a)) (placed s c t n y (v, b))
-      by Fine = ((λ i. (precinct_at s c (row_of s c t n) (column_in s c t n) (e i)).end), same)
-      by (Refused k) = (refl, (e, same))
+      by (Ok _) = ((λ i. (precinct_at s c (row_of s c t n) (column_in s c t n) (e i)).end), same)
+      by (Err k) = (refl, (e, same))
 
   turn_same : (n : ℕ) (x y : State) → n < Np c.shape t → SameState P x y → Both (SameState P) (SameLeft P) (precinct_turn s c t n x) (precinct_turn s c t n y)
   unfolding precinct_turn
@@ -167,5 +166,5 @@ module _ (P : ℕ → Type 0) (s : List ℕ) (c : Setting) (settled : Settled c)
       (by (first (slice_checks s t x.0)))
     where
       by : (v : Verdict) → SameLeft P (precincts_by s c t v x) (precincts_by s c t v y)
-      by Fine = precincts_same (x.0 + slice_header_bytes, x.1, x.2) (y.0 + slice_header_bytes, y.1, y.2) ((λ i. z.0 i + slice_header_bytes), z.1)
-      by (Refused k) = (refl, z)
+      by (Ok _) = precincts_same (x.0 + slice_header_bytes, x.1, x.2) (y.0 + slice_header_bytes, y.1, y.2) ((λ i. z.0 i + slice_header_bytes), z.1)
+      by (Err k) = (refl, z)

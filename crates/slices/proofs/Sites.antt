@@ -1,4 +1,5 @@
 -- Where a stream is refused: nowhere past its end. Assumes nothing.
+use Rattle.std.specs.Prelude.{Ok, Err}
 use Prim.Native.Nat.{ℕ, zero, suc, ◌+◌, ◌≤◌, ◌<◌}
 use mathlib.Core.Path.{◌≡◌, refl}
 use mathlib.Core.Bool.{Bool, true, false, cond}
@@ -9,10 +10,8 @@ use lib.IntN.{ℤ}
 use lib.ListN.{length}
 use Rattle.loops.specs.Run.{go}
 use Rattle.loops.proofs.Laws.{Kept, run_keeps}
-use Rattle.rows.specs.Rows.{first, each, place_of}
+use Rattle.rows.specs.Rows.{first, each, place_of, Fine, Verdict}
 use Rattle.rows.specs.declared.Check.{Check}
-use Rattle.rows.specs.declared.Verdict.{Verdict}
-use Rattle.rows.specs.declared.Verdict.TheVariants.{Fine, Refused}
 use Rattle.rows.proofs.Tables.{held}
 use Rattle.rows.proofs.Sites.{Inside, Sited, sited, sited_append, sited_each}
 use Rattle.layout.specs.declared.Shape.{Shape}
@@ -83,8 +82,8 @@ module _ (s : List ℕ) (c : Setting) (row column at : ℕ) (h : at ≤ length s
 
     packed_sited : (slot place : ℕ) (raws : List ℕ) (y : Verdict × List ℤ) → Answers y → (y.0 ≡ Fine → past s c here slot place ≤ here.end)
         → Kept In Answers (packed s c row column at slot place raws y)
-    packed_sited slot place raws (Fine, cells) i k = k refl
-    packed_sited slot place raws (Refused r, cells) i k = i
+    packed_sited slot place raws (Ok _, cells) i k = k refl
+    packed_sited slot place raws (Err r, cells) i k = i
 
     packet_turn_sited : (slot : ℕ) (x : Packing s c row column at) → In x → Kept In Answers (packet_turn s c row column at slot x)
     unfolding packet_turn
@@ -110,8 +109,8 @@ module _ (s : List ℕ) (c : Setting) (row column at : ℕ) (h : at ≤ length s
       by (first t) (sited (length s) t (header_sited top)) (header_inside s c row column at top)
     where
       by : (v : Verdict) → Inside (length s) v → (v ≡ Fine → here.end ≤ length s) → Inside (length s) (packets_by s c row column at v cells).0
-      by Fine i k = packets_sited (k refl) cells
-      by (Refused r) i k = i
+      by (Ok _) i k = packets_sited (k refl) cells
+      by (Err r) i k = i
 
 -- ---- a slice
 
@@ -131,8 +130,8 @@ module _ (s : List ℕ) (c : Setting) where
   module _ (t : ℕ) where
     placed_sited : (n : ℕ) (x : State) (y : Verdict × List ℤ) → Inside (length s) y.0
         → (y.0 ≡ Fine → (precinct_at s c (row_of s c t n) (column_in s c t n) x.0).end ≤ length s) → Kept InStream LeftInStream (placed s c t n x y)
-    placed_sited n x (Fine, cells) i k = k refl
-    placed_sited n x (Refused r, cells) i k = i
+    placed_sited n x (Ok _, cells) i k = k refl
+    placed_sited n x (Err r, cells) i k = i
 
     precinct_turn_sited : (n : ℕ) (x : State) → InStream x → Kept InStream LeftInStream (precinct_turn s c t n x)
     unfolding precinct_turn
@@ -148,16 +147,16 @@ module _ (s : List ℕ) (c : Setting) where
         by (first k) (sited (length s) k (slice_header_sited s t x.0 h)) (header_ends s t x.0)
       where
         by : (v : Verdict) → Inside (length s) v → (v ≡ Fine → x.0 + slice_header_bytes ≤ length s) → LeftInStream (precincts_by s c t v x)
-        by Fine i k =
+        by (Ok _) i k =
             run_keeps InStream LeftInStream (precinct_turn s c t) (λ y. (Fine, y)) (Np c.shape t) (λ y l. l) (λ n y l. precinct_turn_sited n y)
             (Np c.shape t) 0 (x.0 + slice_header_bytes, x.1, x.2) (omega arith) (k refl)
-        by (Refused r) i k = i
+        by (Err r) i k = i
 
   -- ---- the stream
 
   sliced_sited : (y : Left) → LeftInStream y → Kept InStream (λ (r : Left). Inside (length s) r.0) (sliced y)
-  sliced_sited (Fine, x) h = h
-  sliced_sited (Refused k, x) h = h
+  sliced_sited (Ok _, x) h = h
+  sliced_sited (Err k, x) h = h
 
   -- the place behind the end marker may be the stream's end
   pub end_sited : (at : ℕ) → at ≤ length s → Sited (length s) (end_checks s at)

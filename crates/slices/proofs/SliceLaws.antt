@@ -1,4 +1,5 @@
 -- What the steps of a slice and of the stream rest on. Assumes nothing.
+use Rattle.std.specs.Prelude.{Ok, Err}
 use Prim.Native.Nat.{ℕ, suc, ◌+◌, ◌-◌, ◌*◌, ◌/◌, ◌%◌, ◌≤◌, ◌<◌}
 use mathlib.Core.Path.{◌≡◌, refl, sym, ap, ◌∙◌}
 use mathlib.Core.List.{List, [], ◌∷◌, ◌++◌}
@@ -8,10 +9,8 @@ use borrow.Author.Tests.{eqb-false}
 use lib.IntN.{ℤ}
 use lib.ListN.{length}
 use Rattle.loops.specs.Run.{Turn, go, stop}
-use Rattle.rows.specs.Rows.{check, first}
+use Rattle.rows.specs.Rows.{check, first, Fine, Refused, Verdict}
 use Rattle.rows.specs.declared.Check.{Check}
-use Rattle.rows.specs.declared.Verdict.{Verdict}
-use Rattle.rows.specs.declared.Verdict.TheVariants.{Fine, Refused}
 use Rattle.rows.specs.declared.Row.TheVariants.{Value}
 use Rattle.rows.specs.declared.Field.TheVariants.{Lslh, Ysl}
 use Rattle.rows.proofs.Tables.{append_fine, held}
@@ -104,16 +103,16 @@ module _ (s : List ℕ) (c : Setting) (t n at : ℕ) (tops : List ℕ) (cells : 
     placed_is : (v : Verdict) (cells' : List ℤ) → placed s c t n (at, tops, cells) (v, cells')
         ≡ further (after v (precinct_at s c (row_of s c t n) (column_in s c t n) at)).verdict
         ((after v (precinct_at s c (row_of s c t n) (column_in s c t n) at)).at, (after v (precinct_at s c (row_of s c t n) (column_in s c t n) at)).tops, cells')
-    placed_is Fine cells' = refl
-    placed_is (Refused k) cells' = refl
+    placed_is (Ok _) cells' = refl
+    placed_is (Err k) cells' = refl
 
     ends_in : (v : Verdict) → (v ≡ Fine → p.end ≤ length s) → (after v p).verdict ≡ Fine → (after v p).at ≤ length s
-    ends_in Fine h e = h refl
-    ends_in (Refused k) h e = clash e
+    ends_in (Ok _) h e = h refl
+    ends_in (Err k) h e = clash e
 
     has_in : (v : Verdict) (ps : List Piece) → b ≡ bytes_by v (bytes_of ps) → (after v p).bytes ≡ bytes_by (after v p).verdict (bytes_of ps)
-    has_in Fine ps h = h
-    has_in (Refused k) ps h = h
+    has_in (Ok _) ps h = h
+    has_in (Err k) ps h = h
 
     pub turned : {v : Verdict} {r : Reading} {cells' : List ℤ} → precinct s c (row_of s c t n) (column_in s c t n) at (is_top s c t n) cells ≡ (v, cells')
         → b ≡ bytes_by v (bytes_of (precinct_pieces s c p.row p.column p.at cells)) → r ≡ after v p
@@ -173,8 +172,8 @@ stops_here {x = x} has e f h =
 -- ---- the turn of a slice
 
 sliced_is : (v : Verdict) (x : State) → sliced (v, x) ≡ further v x
-sliced_is Fine x = refl
-sliced_is (Refused k) x = refl
+sliced_is (Ok _) x = refl
+sliced_is (Err k) x = refl
 
 pub slice_turned : (s : List ℕ) (c : Setting) (t : ℕ) (x : State) {r : Reading} {cells' : List ℤ} → Read s (slice s c t x) (slice_pieces s c t x) r cells'
     → Turned s (slice_turn s c t x) (slice_pieces s c t x) r cells'

@@ -1,4 +1,5 @@
 -- The verdict of what stands behind the header is that of one table. Assumes nothing.
+use Rattle.std.specs.Prelude.{Ok, Err}
 use Prim.Native.Nat.{ℕ, ◌+◌}
 use mathlib.Core.Bool.{Bool, true, false, cond}
 use mathlib.Core.List.{List, []}
@@ -7,10 +8,8 @@ use lib.IntN.{ℤ}
 use Rattle.loops.specs.Run.{Turn, go, then as next, run}
 use Rattle.loops.specs.Along.{along}
 use Rattle.loops.proofs.Along.{run_tells}
-use Rattle.rows.specs.Rows.{first, then}
+use Rattle.rows.specs.Rows.{first, then, Fine, Verdict}
 use Rattle.rows.specs.declared.Check.{Check}
-use Rattle.rows.specs.declared.Verdict.{Verdict}
-use Rattle.rows.specs.declared.Verdict.TheVariants.{Fine, Refused}
 use Rattle.rows.proofs.Tables.{joined, fine_passes}
 use Rattle.layout.specs.Precincts.{Np, slices}
 use Rattle.layout.specs.Slots.{slots, candidates}
@@ -37,8 +36,8 @@ turns_table {X = X} = run_tells first Fine fine_passes (λ (r : Verdict × X). r
 
 module _ (s : List ℕ) (c : Setting) (row column at : ℕ) where
   packed_verdict : (slot place : ℕ) (raws : List ℕ) (r : Verdict × List ℤ) → verdict (packed s c row column at slot place raws r) ≡ r.0
-  packed_verdict slot place raws (Fine, cells) = refl
-  packed_verdict slot place raws (Refused k, cells) = refl
+  packed_verdict slot place raws (Ok _, cells) = refl
+  packed_verdict slot place raws (Err k, cells) = refl
 
   slot_table : (slot : ℕ) (x : Packing s c row column at) → verdict (packet_turn s c row column at slot x) ≡ first (slot_checks s c row column at slot x)
   unfolding packet_turn
@@ -60,15 +59,15 @@ module _ (s : List ℕ) (c : Setting) (row column at : ℕ) where
       (λ x. rest_checks s c row column at x.0) (λ x. refl) slot_table (slots c.shape) 0 (body s c row column at, no_flags s c row column at, cells))
     where
       by : (v : Verdict) → (packets_by s c row column at v cells).0 ≡ then v (packets s c row column at cells).0
-      by Fine = refl
-      by (Refused k) = refl
+      by (Ok _) = refl
+      by (Err k) = refl
 
 -- ---- the slices
 
 module _ (s : List ℕ) (c : Setting) (t : ℕ) where
   placed_verdict : (n : ℕ) (x : State) (r : Verdict × List ℤ) → verdict (placed s c t n x r) ≡ r.0
-  placed_verdict n x (Fine, cells) = refl
-  placed_verdict n x (Refused k, cells) = refl
+  placed_verdict n x (Ok _, cells) = refl
+  placed_verdict n x (Err k, cells) = refl
 
   slice_table_lem : (x : State) → (slice s c t x).0 ≡ first (slice_table s c t x)
   unfolding slice precincts precinct_turn slice_table
@@ -81,14 +80,14 @@ module _ (s : List ℕ) (c : Setting) (t : ℕ) where
       ∙ precinct_table_lem s c (row_of s c t n) (column_in s c t n) y.0 (is_top s c t n) y.2) (Np c.shape t) 0 y)
     where
       by : (v : Verdict) → (precincts_by s c t v x).0 ≡ then v (precincts s c t (x.0 + slice_header_bytes, x.1, x.2)).0
-      by Fine = refl
-      by (Refused k) = refl
+      by (Ok _) = refl
+      by (Err k) = refl
 
 -- ---- the stream
 
 sliced_verdict : (r : Left) → verdict (sliced r) ≡ r.0
-sliced_verdict (Fine, x) = refl
-sliced_verdict (Refused k, x) = refl
+sliced_verdict (Ok _, x) = refl
+sliced_verdict (Err k, x) = refl
 
 pub stream_table : (s : List ℕ) (c : Setting) (x : State) → (stream s c x).0 ≡ first (stream_checks s c x)
 unfolding stream slice_turn stream_checks

@@ -1,13 +1,12 @@
 -- What the walk by declared lengths answers: a place that is not past the stream, and a row that is neither Count nor Mode. Assumes nothing.
+use Rattle.std.specs.Prelude.{Ok, Err}
 use Prim.Native.Nat.{ℕ, ◌+◌, ◌≤◌}
 use mathlib.Core.Path.{◌≡◌, refl}
 use mathlib.Core.List.{List}
 use native.Mathlib.Omega.{arith}
 use lib.ListN.{length}
 use Rattle.loops.proofs.Laws.{Kept, run_keeps}
-use Rattle.rows.specs.Rows.{first, answer}
-use Rattle.rows.specs.declared.Verdict.{Verdict}
-use Rattle.rows.specs.declared.Verdict.TheVariants.{Fine, Refused}
+use Rattle.rows.specs.Rows.{first, answer, Fine, Refused, Verdict}
 use Rattle.rows.proofs.Low.{low}
 use Rattle.rows.proofs.Sites.{Inside, sited}
 use Rattle.layout.specs.Precincts.{Np, slices}
@@ -29,8 +28,8 @@ module _ (s : List ℕ) (c : Setting) (P : ℕ → Type 0) (Q : Verdict → Type
     (header : (t at : ℕ) → P at → Judged P Q (first (slice_checks s t at)) (at + slice_header_bytes))
     (step : (at : ℕ) → P at → Judged P Q (first (walk_checks s c at)) (end_of s c at)) where
   abbrev Answers : Verdict × ℕ → Type 0
-  Answers (Fine, to) = P to
-  Answers (Refused k, at) = Q (Refused k)
+  Answers (Ok _, to) = P to
+  Answers (Err k, at) = Q (Refused k)
 
   precincts_judged : (t at : ℕ) → P at → Answers (walk_precincts s c t at)
   unfolding walk_precincts walk_turn
@@ -39,16 +38,16 @@ module _ (s : List ℕ) (c : Setting) (P : ℕ → Type 0) (Q : Verdict → Type
       (Np c.shape t) 0 at (omega arith) p
     where
       by : (y : ℕ) (v : Verdict) → Judged P Q v (end_of s c y) → Kept P Answers (stepped v y (end_of s c y))
-      by y Fine q = q.1 refl
-      by y (Refused k) q = q.0
+      by y (Ok _) q = q.1 refl
+      by y (Err k) q = q.0
 
   slice_judged : (t at : ℕ) → P at → Answers (walk_slice s c t at)
   unfolding walk_slice
   slice_judged t at p = by (first (slice_checks s t at)) (header t at p)
     where
       by : (v : Verdict) → Judged P Q v (at + slice_header_bytes) → Answers (walk_by s c v t at)
-      by Fine q = precincts_judged t (at + slice_header_bytes) (q.1 refl)
-      by (Refused k) q = q.0
+      by (Ok _) q = precincts_judged t (at + slice_header_bytes) (q.1 refl)
+      by (Err k) q = q.0
 
   walk_judged : ((at : ℕ) → P at → Q (first (end_checks s at))) → (at : ℕ) → P at → Q (walk_stream s c at).0
   unfolding walk_stream walk_slice_turn
@@ -57,8 +56,8 @@ module _ (s : List ℕ) (c : Setting) (P : ℕ → Type 0) (Q : Verdict → Type
       (λ t y l q. by (walk_slice s c t y) (slice_judged t y q)) (slices c.shape) 0 at (omega arith) p
     where
       by : (r : Verdict × ℕ) → Answers r → Kept P (λ (r : Verdict × ℕ). Q r.0) (walked_on r)
-      by (Fine, to) q = q
-      by (Refused k, to) q = q
+      by (Ok _, to) q = q
+      by (Err k, to) q = q
 
 -- ---- the place
 

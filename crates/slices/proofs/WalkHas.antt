@@ -5,8 +5,7 @@ use mathlib.Core.List.{List}
 use native.Mathlib.Omega.{arith}
 use Rattle.loops.specs.Before.{before}
 use Rattle.loops.proofs.Before.{before_goes, before_carries}
-use Rattle.rows.specs.Rows.{first}
-use Rattle.rows.specs.declared.Verdict.TheVariants.{Fine}
+use Rattle.rows.specs.Rows.{first, Fine}
 use Rattle.layout.specs.Precincts.{Np, slices}
 use Rattle.packets.specs.declared.Setting.{Setting}
 use Rattle.slices.specs.Slice.{State, Left, slice_header_bytes, row_of, column_in, is_top, precinct_turn, slice}

@@ -1,4 +1,5 @@
 -- The walk by declared lengths: its steps, its table, and that a reading walks. Assumes nothing.
+use Rattle.std.specs.Prelude.{Ok, Err}
 use Prim.Native.Nat.{ℕ, zero, suc, ◌+◌, ◌-◌, ◌≤◌}
 use mathlib.Core.Path.{◌≡◌, refl, sym, ◌∙◌}
 use mathlib.Core.Bool.{Bool}
@@ -10,10 +11,8 @@ use Rattle.loops.specs.Run.{Turn, go, stop, then as next, run}
 use Rattle.loops.specs.Along.{along}
 use Rattle.loops.proofs.Laws.{Kept, run_keeps}
 use Rattle.loops.proofs.Along.{run_tells}
-use Rattle.rows.specs.Rows.{check, ample, first, each, then}
+use Rattle.rows.specs.Rows.{check, ample, first, each, then, Fine, Refused, Verdict}
 use Rattle.rows.specs.declared.Check.{Check}
-use Rattle.rows.specs.declared.Verdict.{Verdict}
-use Rattle.rows.specs.declared.Verdict.TheVariants.{Fine, Refused}
 use Rattle.rows.specs.declared.Row.TheVariants.{Cut, Length}
 use Rattle.rows.specs.declared.Field.TheVariants.{Lprc, Precinct as PrecinctField}
 use Rattle.rows.proofs.Tables.{joined, fine_passes, append_fine, held}
@@ -74,8 +73,8 @@ module _ (s : List ℕ) (c : Setting) where
   turn_ends from n at h = by (first (walk_checks s c at)) (walk_inside s c at)
     where
       by : (v : Verdict) → (v ≡ Fine → end_of s c at ≤ length s) → Kept (Between from) (Ended from) (stepped v at (end_of s c at))
-      by Fine inside = (omega (arith, h), inside refl)
-      by (Refused k) inside = λ e. clash e
+      by (Ok _) inside = (omega (arith, h), inside refl)
+      by (Err k) inside = λ e. clash e
 
   pub precincts_end : (t at to : ℕ) → at ≤ length s → walk_precincts s c t at ≡ (Fine, to) → (at ≤ to) × (to ≤ length s)
   unfolding walk_precincts
@@ -92,8 +91,8 @@ module _ (s : List ℕ) (c : Setting) where
   slice_ends t at to e = by _ refl e
     where
       by : (v : Verdict) → first (slice_checks s t at) ≡ v → walk_by s c v t at ≡ (Fine, to) → (at + slice_header_bytes ≤ to) × (to ≤ length s)
-      by Fine f e = precincts_end t (at + slice_header_bytes) to (header_ends s t at f) e
-      by (Refused k) f e = clash (λ i. (e i).0)
+      by (Ok _) f e = precincts_end t (at + slice_header_bytes) to (header_ends s t at f) e
+      by (Err k) f e = clash (λ i. (e i).0)
 
 -- ---- the walk is judged by one table
 
@@ -102,12 +101,12 @@ module _ (s : List ℕ) (c : Setting) where
   verdict u = next u (λ y. Fine) (λ r. r.0)
 
   stepped_verdict : (v : Verdict) (at to : ℕ) → verdict (stepped v at to) ≡ v
-  stepped_verdict Fine at to = refl
-  stepped_verdict (Refused k) at to = refl
+  stepped_verdict (Ok _) at to = refl
+  stepped_verdict (Err k) at to = refl
 
   walked_verdict : (x : Verdict × ℕ) → verdict (walked_on x) ≡ x.0
-  walked_verdict (Fine, to) = refl
-  walked_verdict (Refused k, at) = refl
+  walked_verdict (Ok _, to) = refl
+  walked_verdict (Err k, at) = refl
 
   walk_slice_table_lem : (t at : ℕ) → (walk_slice s c t at).0 ≡ first (walk_slice_table s c t at)
   unfolding walk_slice walk_precincts walk_turn walk_slice_table
@@ -117,8 +116,8 @@ module _ (s : List ℕ) (c : Setting) where
       (λ n y. stepped_verdict (first (walk_checks s c y)) y (end_of s c y)) (Np c.shape t) 0 (at + slice_header_bytes))
     where
       by : (v : Verdict) → (walk_by s c v t at).0 ≡ then v (walk_precincts s c t (at + slice_header_bytes)).0
-      by Fine = refl
-      by (Refused k) = refl
+      by (Ok _) = refl
+      by (Err k) = refl
 
   pub walk_table_lem : (at : ℕ) → (walk_stream s c at).0 ≡ first (walk_table s c at)
   unfolding walk_stream walk_slice_turn walk_table
@@ -162,16 +161,16 @@ module _ (s : List ℕ) (c : Setting) where
   precinct_walks row column at top cells e = by _ refl e
     where
       by : (v : Verdict) → first (header_checks s c row column at top) ≡ v → (packets_by s c row column at v cells).0 ≡ Fine → first (walk_checks s c at) ≡ Fine
-      by Fine f e = header_walks row column at top f
-      by (Refused k) f e = clash e
+      by (Ok _) f e = header_walks row column at top f
+      by (Err k) f e = clash e
 
   turn_walks : (t n : ℕ) (x : State) → Walking (precinct_turn s c t n x) (walk_turn s c n x.0)
   unfolding precinct_turn walk_turn
   turn_walks t n x = by (precinct s c (row_of s c t n) (column_in s c t n) x.0 (is_top s c t n) x.2) (precinct_walks (row_of s c t n) (column_in s c t n) x.0 (is_top s c t n) x.2)
     where
       by : (y : Verdict × List ℤ) → (y.0 ≡ Fine → first (walk_checks s c x.0) ≡ Fine) → Walking (placed s c t n x y) (stepped (first (walk_checks s c x.0)) x.0 (end_of s c x.0))
-      by (Fine, cells) h = λ i. stepped (h refl i) x.0 (end_of s c x.0)
-      by (Refused k, cells) h = λ e. clash e
+      by (Ok _, cells) h = λ i. stepped (h refl i) x.0 (end_of s c x.0)
+      by (Err k, cells) h = λ e. clash e
 
   -- the precincts of a slice
   pub reading_walks : (t : ℕ) (x y : State) → precincts s c t x ≡ (Fine, y) → walk_precincts s c t x.0 ≡ (Fine, y.0)
@@ -186,16 +185,16 @@ module _ (s : List ℕ) (c : Setting) where
   slice_walks t x y e = by (first (slice_checks s t x.0)) e
     where
       by : (v : Verdict) → precincts_by s c t v x ≡ (Fine, y) → walk_by s c v t x.0 ≡ (Fine, y.0)
-      by Fine e = reading_walks t (x.0 + slice_header_bytes, x.1, x.2) y e
-      by (Refused k) e = clash (λ i. (e i).0)
+      by (Ok _) e = reading_walks t (x.0 + slice_header_bytes, x.1, x.2) y e
+      by (Err k) e = clash (λ i. (e i).0)
 
   slice_turn_walks : (t : ℕ) (x : State) → Walking (slice_turn s c t x) (walk_slice_turn s c t x.0)
   unfolding slice_turn walk_slice_turn
   slice_turn_walks t x = by (slice s c t x) (λ y. slice_walks t x y)
     where
       by : (z : Left) → ((y : State) → z ≡ (Fine, y) → walk_slice s c t x.0 ≡ (Fine, y.0)) → Walking (sliced z) (walked_on (walk_slice s c t x.0))
-      by (Fine, y) h = λ i. walked_on (h y refl i)
-      by (Refused k, y) h = λ e. clash e
+      by (Ok _, y) h = λ i. walked_on (h y refl i)
+      by (Err k, y) h = λ e. clash e
 
   -- the stream
   pub stream_walks : (x y : State) → stream s c x ≡ (Fine, y) → walk_stream s c x.0 ≡ (Fine, y.0)

@@ -1,5 +1,6 @@
 -- The places that an accepted walk by declared lengths comes to, slice by slice and precinct by precinct: each is in the stream, and leads to the next.
 -- Assumes nothing.
+use Rattle.std.specs.Prelude.{Ok, Err}
 use Prim.Native.Nat.{ℕ, zero, suc, ◌+◌, ◌≤◌, ◌<◌}
 use mathlib.Core.Path.{◌≡◌, refl, sym, ap, ◌∙◌}
 use mathlib.Core.List.{List}
@@ -10,9 +11,7 @@ use Rattle.loops.specs.Run.{go, stop}
 use Rattle.loops.specs.Before.{before}
 use Rattle.loops.proofs.Before.{Turns, run_turns}
 use Rattle.loops.proofs.Follows.{go_same, go_stop}
-use Rattle.rows.specs.Rows.{first}
-use Rattle.rows.specs.declared.Verdict.{Verdict}
-use Rattle.rows.specs.declared.Verdict.TheVariants.{Fine, Refused}
+use Rattle.rows.specs.Rows.{first, Fine, Verdict}
 use Rattle.layout.specs.Precincts.{Np, slices}
 use Rattle.packets.specs.declared.Setting.{Setting}
 use Rattle.slices.specs.Slice.{slice_header_bytes, slice_checks}
@@ -26,12 +25,12 @@ use Rattle.slices.proofs.WalkLaws.{walk_inside}
 -- ---- a step that stops refuses, and so does a walk
 
 step_stops : (v : Verdict) (at to : ℕ) (r : Verdict × ℕ) → stepped v at to ≡ stop r → r.0 ≡ Fine → ⊥
-step_stops Fine at to r e f = go_stop e
-step_stops (Refused k) at to r e f = stop_refuses e f
+step_stops (Ok _) at to r e f = go_stop e
+step_stops (Err k) at to r e f = stop_refuses e f
 
 walk_stops : (w r : Verdict × ℕ) → walked_on w ≡ stop r → r.0 ≡ Fine → ⊥
-walk_stops (Fine, to) r e f = go_stop e
-walk_stops (Refused k, at) r e f = stop_refuses e f
+walk_stops (Ok _, to) r e f = go_stop e
+walk_stops (Err k, at) r e f = stop_refuses e f
 
 -- ---- where the walk begins
 
@@ -63,12 +62,12 @@ module _ (s : List ℕ) (c : Setting) (t at : ℕ) (fine : (walk_slice s c t at)
   walked = by (first (slice_checks s t at)) refl fine
     where
       by : (v : Verdict) → first (slice_checks s t at) ≡ v → (walk_by s c v t at).0 ≡ Fine → Walked
-      by Fine h e =
+      by (Ok _) h e =
           let q =
           run_turns (walk_turn s c) (at + slice_header_bytes) (λ (r : Verdict × ℕ). r.0 ≡ Fine) (λ y. (Fine, y)) (Np c.shape t)
           (λ n r. step_stops (first (walk_checks s c (precinct_place s c at n))) (precinct_place s c at n) (end_of s c (precinct_place s c at n)) r) e in
           record { header = header_ends s t at h; goes = q; ends = (λ i. (walk_by s c (h i) t at).1) ∙ ap (λ (r : Verdict × ℕ). r.1) q.ends }
-      by (Refused k) h e = clash e
+      by (Err k) h e = clash e
 
   pub walk_header : at + slice_header_bytes ≤ length s
   walk_header = walked.header
@@ -82,8 +81,8 @@ module _ (s : List ℕ) (c : Setting) (t at : ℕ) (fine : (walk_slice s c t at)
     where
       by : (v : Verdict) → first (walk_checks s c (precinct_place s c at n)) ≡ v
           → stepped v (precinct_place s c at n) (end_of s c (precinct_place s c at n)) ≡ go (precinct_place s c at (n + 1)) → Ends s c at n
-      by Fine h e = record { inside = walk_inside s c (precinct_place s c at n) h; next = sym (go_same e) }
-      by (Refused k) h e = go_stop (sym e)
+      by (Ok _) h e = record { inside = walk_inside s c (precinct_place s c at n) h; next = sym (go_same e) }
+      by (Err k) h e = go_stop (sym e)
 
   -- the places of the precincts are in the stream, and so is the place behind them
   pub place_inside : (n : ℕ) → n ≤ Np c.shape t → precinct_place s c at n ≤ length s
@@ -105,5 +104,5 @@ module _ (s : List ℕ) (c : Setting) (at : ℕ) where
       by (walk_slice s c t (slice_place s c at t)) (q.goes t l)
     where
       by : (w : Verdict × ℕ) → walked_on w ≡ go (slice_place s c at (t + 1)) → w ≡ (Fine, slice_place s c at (t + 1))
-      by (Fine, to) e = λ i. (Fine, go_same e i)
-      by (Refused k, to) e = go_stop (sym e)
+      by (Ok _, to) e = λ i. (Fine, go_same e i)
+      by (Err k, to) e = go_stop (sym e)

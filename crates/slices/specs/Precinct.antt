@@ -1,10 +1,8 @@
 -- C.2: a precinct, its header and its packets, which fill it exactly.
-use Rattle.std.specs.Prelude.{ℕ, zero, suc, ◌+◌, ◌-◌, ◌/◌, ◌%◌, ◌^◌, max, Bool, cond, ◌&&◌, List, [], ◌∷◌, ◌++◌, ltb, ℤ, length, get_or, set}
+use Rattle.std.specs.Prelude.{ℕ, zero, suc, ◌+◌, ◌-◌, ◌/◌, ◌%◌, ◌^◌, max, Bool, cond, ◌&&◌, List, [], ◌∷◌, ◌++◌, ltb, ℤ, length, get_or, set, Ok, Err}
 use Rattle.loops.specs.Run.{Turn, go, stop, run}
-use Rattle.rows.specs.Rows.{check, ample, first, each}
+use Rattle.rows.specs.Rows.{check, ample, first, each, Refused, Verdict}
 use Rattle.rows.specs.declared.Check.{Check}
-use Rattle.rows.specs.declared.Verdict.{Verdict}
-use Rattle.rows.specs.declared.Verdict.TheVariants.{Fine, Refused}
 use Rattle.rows.specs.declared.Row.TheVariants.{Cut, Value, Length, Mode}
 use Rattle.rows.specs.declared.Field.TheVariants.{Lprc, Precinct as PrecinctField, Q, R, D as ModeField, Rest}
 use Rattle.bits.specs.Fields.{field_at}
@@ -53,8 +51,8 @@ module _ (s : List ℕ) (c : Setting) (row column at : ℕ) where
   Packing = ℕ × List ℕ × List ℤ
 
   abbrev pub packed : ℕ → ℕ → List ℕ → Verdict × List ℤ → Turn Packing (Verdict × List ℤ)
-  packed slot place raws (Fine, cells) = go (past s c precinct_at slot place, set raws slot (head s c precinct_at slot place).dr, cells)
-  packed slot place raws (Refused k, cells) = stop (Refused k, cells)
+  packed slot place raws (Ok _, cells) = go (past s c precinct_at slot place, set raws slot (head s c precinct_at slot place).dr, cells)
+  packed slot place raws (Err k, cells) = stop (Refused k, cells)
 
   unfoldable pub packet_turn : ℕ → Packing → Turn Packing (Verdict × List ℤ)
   packet_turn slot x =
@@ -74,8 +72,8 @@ module _ (s : List ℕ) (c : Setting) (row column at : ℕ) where
   packets cells = run packet_turn (λ x. (first (rest_checks x.0), x.2)) (slots c.shape) 0 (body, no_flags, cells)
 
   abbrev pub packets_by : Verdict → List ℤ → Verdict × List ℤ
-  packets_by Fine cells = packets cells
-  packets_by (Refused k) cells = (Refused k, cells)
+  packets_by (Ok _) cells = packets cells
+  packets_by (Err k) cells = (Refused k, cells)
 
   unfoldable pub precinct : Bool → List ℤ → Verdict × List ℤ
   precinct top cells = packets_by (first (header_checks top)) cells

@@ -2,7 +2,7 @@
 -- accepted stream, and of a refused one up to the slice or precinct that is refused.
 use Rattle.std.specs.Prelude.{ℕ, ◌+◌, List, ℤ}
 use Rattle.loops.specs.Before.{before}
-use Rattle.rows.specs.declared.Verdict.{Verdict}
+use Rattle.rows.specs.Rows.{Verdict}
 use Rattle.packets.specs.declared.Setting.{Setting}
 use Rattle.packets.specs.declared.Precinct.{Precinct}
 use Rattle.packets.specs.Packets.{head, packet}

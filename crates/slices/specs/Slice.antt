@@ -1,10 +1,8 @@
 -- A.4.14 and B.11: a slice, its header and its precincts, from left to right and from top to bottom.
-use Rattle.std.specs.Prelude.{ℕ, ◌+◌, ◌/◌, ◌%◌, Bool, List, [], ◌∷◌, ◌++◌, eqb, ℤ}
+use Rattle.std.specs.Prelude.{ℕ, ◌+◌, ◌/◌, ◌%◌, Bool, List, [], ◌∷◌, ◌++◌, eqb, ℤ, Ok, Err}
 use Rattle.loops.specs.Run.{Turn, go, stop, run}
-use Rattle.rows.specs.Rows.{check, ample, first}
+use Rattle.rows.specs.Rows.{check, ample, first, Fine, Refused, Verdict}
 use Rattle.rows.specs.declared.Check.{Check}
-use Rattle.rows.specs.declared.Verdict.{Verdict}
-use Rattle.rows.specs.declared.Verdict.TheVariants.{Fine, Refused}
 use Rattle.rows.specs.declared.Row.TheVariants.{Cut, Marker, Value, Lacking}
 use Rattle.rows.specs.declared.Field.TheVariants.{Slh, Lslh, Ysl}
 use Rattle.bits.specs.Fields.{field_at}
@@ -61,10 +59,10 @@ module _ (s : List ℕ) (c : Setting) (t : ℕ) where
   is_top n = top_row c.shape t (row_of n)
 
   abbrev pub placed : ℕ → State → Verdict × List ℤ → Turn State Left
-  placed n x (Fine, cells) =
+  placed n x (Ok _, cells) =
       let p = precinct_at s c (row_of n) (column_in n) x.0 in
       go (p.end, raised c p (NL c.shape) x.1, cells)
-  placed n x (Refused k, cells) = stop (Refused k, (x.0, x.1, cells))
+  placed n x (Err k, cells) = stop (Refused k, (x.0, x.1, cells))
 
   unfoldable pub precinct_turn : ℕ → State → Turn State Left
   precinct_turn n x = placed n x (precinct s c (row_of n) (column_in n) x.0 (is_top n) x.2)
@@ -73,8 +71,8 @@ module _ (s : List ℕ) (c : Setting) (t : ℕ) where
   precincts x = run precinct_turn (λ y. (Fine, y)) (Np c.shape t) 0 x
 
   abbrev pub precincts_by : Verdict → State → Left
-  precincts_by Fine x = precincts (x.0 + slice_header_bytes, x.1, x.2)
-  precincts_by (Refused k) x = (Refused k, x)
+  precincts_by (Ok _) x = precincts (x.0 + slice_header_bytes, x.1, x.2)
+  precincts_by (Err k) x = (Refused k, x)
 
   -- slice t, whose header stands at the state's place
   unfoldable pub slice : State → Left

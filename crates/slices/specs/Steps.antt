@@ -1,8 +1,7 @@
 -- What the steps of a precinct, a slice and the stream ask and answer.
-use Rattle.std.specs.Prelude.{ℕ, ◌^◌, ◌≤◌, ◌<◌, ◌≡◌, Bool, false, List, [], ◌∷◌, ℤ, length}
+use Rattle.std.specs.Prelude.{ℕ, ◌^◌, ◌≤◌, ◌<◌, ◌≡◌, Bool, false, List, [], ◌∷◌, ℤ, length, Ok, Err}
 use Rattle.loops.specs.Run.{Turn, go, stop}
-use Rattle.rows.specs.declared.Verdict.{Verdict}
-use Rattle.rows.specs.declared.Verdict.TheVariants.{Fine, Refused}
+use Rattle.rows.specs.Rows.{Fine, Refused, Verdict}
 use Rattle.pieces.specs.Pieces.{Piece, Markers, bytes_of, bytes_by, plus}
 use Rattle.pieces.specs.declared.Bytes.{Bytes}
 use Rattle.layout.specs.Bands.{NL}
@@ -41,8 +40,8 @@ pub record IsPrecinct (s : List ℕ) (c : Setting) (row column at : ℕ) (p : Pr
 
 -- a packet goes on with the next place and the flags, or refuses
 abbrev pub onward : Verdict → ℕ → List ℕ → List ℤ → Turn (ℕ × List ℕ × List ℤ) (Verdict × List ℤ)
-onward Fine at raws cells = go (at, raws, cells)
-onward (Refused k) at raws cells = stop (Refused k, cells)
+onward (Ok _) at raws cells = go (at, raws, cells)
+onward (Err k) at raws cells = stop (Refused k, cells)
 
 pub record Passed (s : List ℕ) (c : Setting) (p : Precinct) (slot place : ℕ) (raws : List ℕ) (cells : List ℤ) (f : Flags) (cells' : List ℤ) : Type 0 where
   pub turn : packet_turn s c p.row p.column p.at slot (place, raws, cells) ≡ onward f.verdict f.at f.raws cells'
@@ -56,13 +55,13 @@ pub record IsPacked (s : List ℕ) (c : Setting) (p : Precinct) (left : Verdict 
 
 -- where the reading stands behind a precinct that is accepted, or refused
 abbrev pub behind : Verdict → Setting → Precinct → ℕ → List ℕ → Bytes → Reading
-behind Fine c p at tops bytes = record { verdict = Fine; at = p.end; tops = raised c p (NL c.shape) tops; bytes = bytes }
-behind (Refused k) c p at tops bytes = record { verdict = Refused k; at = at; tops = tops; bytes = bytes }
+behind (Ok _) c p at tops bytes = record { verdict = Fine; at = p.end; tops = raised c p (NL c.shape) tops; bytes = bytes }
+behind (Err k) c p at tops bytes = record { verdict = Refused k; at = at; tops = tops; bytes = bytes }
 
 -- a precinct goes on with the reading, or refuses with it
 abbrev pub further : Verdict → State → Turn State Left
-further Fine x = go x
-further (Refused k) x = stop (Refused k, x)
+further (Ok _) x = go x
+further (Err k) x = stop (Refused k, x)
 
 -- a precinct or a slice that has these pieces
 pub record Turned (s : List ℕ) (turn : Turn State Left) (has : List Piece) (r : Reading) (cells' : List ℤ) : Type 0 where

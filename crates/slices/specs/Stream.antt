@@ -1,9 +1,8 @@
 -- A.2, Table A.1: the slices, the end marker, and nothing behind it.
-use Rattle.std.specs.Prelude.{ℕ, ◌+◌, ◌-◌, List, [], ◌∷◌, length}
+use Rattle.std.specs.Prelude.{ℕ, ◌+◌, ◌-◌, List, [], ◌∷◌, length, Ok, Err}
 use Rattle.loops.specs.Run.{Turn, go, stop, run}
-use Rattle.rows.specs.Rows.{check, ample, first}
+use Rattle.rows.specs.Rows.{check, ample, first, Refused}
 use Rattle.rows.specs.declared.Check.{Check}
-use Rattle.rows.specs.declared.Verdict.TheVariants.{Fine, Refused}
 use Rattle.rows.specs.declared.Row.TheVariants.{Cut, Marker}
 use Rattle.rows.specs.declared.Field.TheVariants.{Eoc, Tail}
 use Rattle.bits.specs.Fields.{field_at}
@@ -21,8 +20,8 @@ end_checks s at =
     ∷ []
 
 abbrev pub sliced : Left → Turn State Left
-sliced (Fine, x) = go x
-sliced (Refused k, x) = stop (Refused k, x)
+sliced (Ok _, x) = go x
+sliced (Err k, x) = stop (Refused k, x)
 
 unfoldable pub slice_turn : List ℕ → Setting → ℕ → State → Turn State Left
 slice_turn s c t x = sliced (slice s c t x)

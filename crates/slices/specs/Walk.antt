@@ -1,13 +1,11 @@
 -- The walk by declared lengths: what a reading checks outside precincts, and that each precinct ends in the stream. Of a precinct nothing but its
 -- length Lprc is looked at: it ends as many bytes behind its header as Lprc says, whatever else it says.
-use Rattle.std.specs.Prelude.{ℕ, ◌+◌, ◌-◌, ◌≤◌, ◌≡◌, List, [], ◌∷◌, ◌++◌, length}
+use Rattle.std.specs.Prelude.{ℕ, ◌+◌, ◌-◌, ◌≤◌, ◌≡◌, List, [], ◌∷◌, ◌++◌, length, Ok, Err}
 use Rattle.loops.specs.Run.{Turn, go, stop, run}
 use Rattle.loops.specs.Before.{before}
 use Rattle.loops.specs.Along.{along}
-use Rattle.rows.specs.Rows.{check, ample, first}
+use Rattle.rows.specs.Rows.{check, ample, first, Fine, Refused, Verdict}
 use Rattle.rows.specs.declared.Check.{Check}
-use Rattle.rows.specs.declared.Verdict.{Verdict}
-use Rattle.rows.specs.declared.Verdict.TheVariants.{Fine, Refused}
 use Rattle.rows.specs.declared.Row.TheVariants.{Cut, Length}
 use Rattle.rows.specs.declared.Field.TheVariants.{Lprc, Precinct as PrecinctField}
 use Rattle.bits.specs.Fields.{field_at}
@@ -22,13 +20,13 @@ use Rattle.slices.specs.Stream.{end_checks}
 
 -- a step goes on to a place, or refuses where it stands
 abbrev pub stepped : Verdict → ℕ → ℕ → Turn ℕ (Verdict × ℕ)
-stepped Fine at to = go to
-stepped (Refused k) at to = stop (Refused k, at)
+stepped (Ok _) at to = go to
+stepped (Err k) at to = stop (Refused k, at)
 
 -- a walk goes on to where it ends, or has refused
 abbrev pub walked_on : Verdict × ℕ → Turn ℕ (Verdict × ℕ)
-walked_on (Fine, to) = go to
-walked_on (Refused k, at) = stop (Refused k, at)
+walked_on (Ok _, to) = go to
+walked_on (Err k, at) = stop (Refused k, at)
 
 module _ (s : List ℕ) (c : Setting) where
   -- Table C.1: where the precinct whose header stands at a place ends
@@ -50,8 +48,8 @@ module _ (s : List ℕ) (c : Setting) where
   walk_precincts t at = run walk_turn (λ y. (Fine, y)) (Np c.shape t) 0 at
 
   abbrev pub walk_by : Verdict → ℕ → ℕ → Verdict × ℕ
-  walk_by Fine t at = walk_precincts t (at + slice_header_bytes)
-  walk_by (Refused k) t at = (Refused k, at)
+  walk_by (Ok _) t at = walk_precincts t (at + slice_header_bytes)
+  walk_by (Err k) t at = (Refused k, at)
 
   -- A.4.14: slice t, whose header stands at a place
   unfoldable pub walk_slice : ℕ → ℕ → Verdict × ℕ

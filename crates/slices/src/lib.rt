@@ -6,8 +6,7 @@ mod tops;
 pub mod walk;
 
 ghost use Rattle.std.specs.Prelude.{◌≡◌, ◌+◌, ◌≤◌, ◌<◌, ◌^◌, length};
-ghost use Rattle.rows.specs.Rows.{first};
-ghost use Rattle.rows.specs.declared.Verdict.TheVariants.{Fine};
+ghost use Rattle.rows.specs.Rows.{first, Fine};
 ghost use Rattle.pieces.specs.Pieces.{nothing, all};
 ghost use Rattle.layout.specs.Precincts.{Npy, Np, slices};
 ghost use Rattle.packets.specs.Ready.{Settled};
@@ -21,7 +20,7 @@ use packets::{Precinct, Setting};
 use picture::marker::Marker;
 use picture::segment::{Segment, left, length_row};
 use pieces::{Bytes, NOTHING};
-use rows::{AMPLE, Check, Field, HOLDS, Row, Verdict};
+use rows::{AMPLE, Check, Field, Row, Verdict};
 
 // Where a reading stands: the verdict, the next place, and the bands' largest T so far; and where the bytes went of what is read. The work cells stand beside it.
 #[derive(Clone, Copy)]
@@ -38,7 +37,7 @@ pub fn slice_row(s: &[u8], t: usize, at: usize) -> Verdict
     ensures { result ≡ first (slice_checks s.now t at) }
 {
     let g = Segment::read(s, at);
-    let marker = rows::first([
+    rows::first(&[
         Check(Row::Cut, g.at, Field::Slh, g.left, 2, AMPLE),
         Check(
             Row::Marker,
@@ -56,16 +55,10 @@ pub fn slice_row(s: &[u8], t: usize, at: usize) -> Verdict
             Marker::SLH,
             Marker::SLH,
         ),
-        HOLDS,
-        HOLDS,
-        HOLDS,
-        HOLDS,
-        HOLDS,
-    ]);
-    let length = length_row(g, Field::Lslh, 4, 4);
+    ])?;
+    length_row(g, Field::Lslh, 4, 4)?;
     let index = bits::u16_at(s, at + 4);
-    let ysl = rows::one(Check(Row::Value, at + 4, Field::Ysl, index, t, t));
-    rows::then(marker, rows::then(length, ysl))
+    rows::first(&[Check(Row::Value, at + 4, Field::Ysl, index, t, t)])
 }
 
 // Where a reading stands behind a precinct.
@@ -81,13 +74,13 @@ fn behind(
     ensures { result ≡ behind v c p at tops bytes }
 {
     match v {
-        Verdict::Fine => Reading {
+        Ok(()) => Reading {
             verdict: v,
             at: p.end,
             tops: tops::raised(c, p, tops),
             bytes: bytes,
         },
-        Verdict::Refused(_) => Reading {
+        Err(_) => Reading {
             verdict: v,
             at: at,
             tops: tops,
@@ -146,26 +139,24 @@ pub fn all_precincts(
     let mut place = at;
     let mut most = tops;
     let mut bytes = NOTHING;
-    let mut n = 0;
-    while n < count {
+    for n in 0..count {
         let r = precinct_turn(s, cells, c, t, n, place, most);
         let v = r.verdict;
         place = r.at;
         let raised = r.tops;
         most = raised;
         match v {
-            Verdict::Fine => {
+            Ok(()) => {
                 let more = r.bytes;
                 bytes = bytes.and(more);
             }
-            Verdict::Refused(_) => {
+            Err(_) => {
                 return stopped(v, place, most);
             }
         }
-        n += 1;
     }
     Reading {
-        verdict: Verdict::Fine,
+        verdict: Ok(()),
         at: place,
         tops: most,
         bytes: bytes,
@@ -203,8 +194,8 @@ fn precincts_by(
     ensures { Read s.now (precincts_by s.now c t v (at, tops, cells.old)) (slice_pieces s.now c t (at, tops, cells.old)) result cells.new }
 {
     match v {
-        Verdict::Fine => with_header(all_precincts(s, cells, c, t, at + 6, tops)),
-        Verdict::Refused(_) => stopped(v, at, tops),
+        Ok(()) => with_header(all_precincts(s, cells, c, t, at + 6, tops)),
+        Err(_) => stopped(v, at, tops),
     }
 }
 
@@ -232,7 +223,7 @@ pub fn end_row(s: &[u8], at: usize) -> Verdict
     let there = left(s, at);
     let marker = bits::u16_at(s, at);
     let behind = left(s, at + 2);
-    rows::first([
+    rows::first(&[
         Check(Row::Cut, at, Field::Eoc, there, 2, AMPLE),
         Check(
             Row::Marker,
@@ -243,10 +234,5 @@ pub fn end_row(s: &[u8], at: usize) -> Verdict
             Marker::EOC,
         ),
         Check(Row::Marker, at + 2, Field::Tail, behind, 0, 0),
-        HOLDS,
-        HOLDS,
-        HOLDS,
-        HOLDS,
-        HOLDS,
     ])
 }

@@ -1,8 +1,7 @@
 // C.2: a precinct, its header and its packets.
 ghost use Rattle.std.specs.Prelude.{◌≡◌, cond, [], ◌∷◌, ◌+◌, ◌*◌, ◌-◌, ◌/◌, ◌%◌, ◌≤◌, ◌<◌, ◌^◌, length};
 ghost use Rattle.bits.specs.Fields.{field};
-ghost use Rattle.rows.specs.Rows.{check, first, each};
-ghost use Rattle.rows.specs.declared.Verdict.TheVariants.{Fine};
+ghost use Rattle.rows.specs.Rows.{check, first, each, Fine};
 ghost use Rattle.rows.specs.declared.Row.TheVariants.{Mode, Length};
 ghost use Rattle.rows.specs.declared.Field.TheVariants.{D as ModeField, Rest};
 ghost use Rattle.layout.specs.Bands.{NL};
@@ -20,7 +19,7 @@ use packets::passes::any_line;
 use packets::{Precinct, Setting};
 use picture::segment::left;
 use pieces::{Bytes, NOTHING};
-use rows::{AMPLE, Check, Field, HOLDS, Row, Verdict};
+use rows::{AMPLE, Check, Field, Row, Verdict};
 
 // What a slot of a precinct leaves beside the cells: the verdict, the next place, the raw flags of the slots so far, and where the slot's bytes went.
 #[derive(Clone, Copy)]
@@ -77,15 +76,12 @@ fn field_row(s: &[u8], c: Setting, p: Precinct) -> Verdict
     let lprc = bits::u24_at(s, at);
     let size = p.end - at;
     let most = 2 * band_count(shape) - 1;
-    rows::first([
+    rows::first(&[
         Check(Row::Cut, at, Field::Lprc, there, 3, AMPLE),
         Check(Row::Value, at, Field::Lprc, lprc, 1, 0xfffff),
         Check(Row::Length, at, Field::Precinct, size, 0, there),
         Check(Row::Value, at + 3, Field::Q, p.q, 0, 31),
         Check(Row::Value, at + 4, Field::R, p.r, 0, most),
-        HOLDS,
-        HOLDS,
-        HOLDS,
     ])
 }
 
@@ -96,9 +92,9 @@ fn mode_row(s: &[u8], at: usize, bit: usize, exists: bool) -> Verdict
 {
     if exists {
         let d = bits::field(s, 8 * at + bit, 2);
-        return rows::one(Check(Row::Mode, at + bit / 8, Field::D, d % 2, 0, 0));
+        return rows::first(&[Check(Row::Mode, at + bit / 8, Field::D, d % 2, 0, 0)]);
     }
-    Verdict::Fine
+    Ok(())
 }
 
 // The D of all bands. Below the top row of a slice each may be what it is.
@@ -107,29 +103,26 @@ fn mode_rows(s: &[u8], c: Setting, p: Precinct, top: bool) -> Verdict
     ensures { result ≡ first (each (NL c.shape) (mode_checks s.now c p.row p.column p.at top)) }
 {
     if !top {
-        return Verdict::Fine;
+        return Ok(());
     }
     let shape = c.shape;
     let at = p.at;
     let n = band_count(shape);
-    let mut v = Verdict::Fine;
     let mut bit = 40;
-    let mut b = 0;
-    while b < n {
+    for b in 0..n {
         let exists = band_exists(shape, b);
-        v = rows::then(v, mode_row(s, at, bit, exists));
-        bit += rows::choose(exists, 2, 0);
-        b += 1;
+        mode_row(s, at, bit, exists)?;
+        bit += 2 * usize::from(exists);
     }
-    v
+    Ok(())
 }
 
 fn header_row(s: &[u8], c: Setting, p: Precinct, top: bool) -> Verdict
     requires { Settled c × (p.at < 2 ^ 32) × IsPrecinct s.now c p.row p.column p.at p }
     ensures { result ≡ first (header_checks s.now c p.row p.column p.at top) }
 {
-    let fields = field_row(s, c, p);
-    rows::then(fields, mode_rows(s, c, p, top))
+    field_row(s, c, p)?;
+    mode_rows(s, c, p, top)
 }
 
 // The packet of a slot, which has none where the precinct has none of its lines.
@@ -159,7 +152,7 @@ fn packet_turn(
         };
     }
     Flags {
-        verdict: Verdict::Fine,
+        verdict: Ok(()),
         at: at,
         raws: raws,
         bytes: NOTHING,
@@ -170,7 +163,7 @@ fn rest_row(p: Precinct, place: usize) -> Verdict
     requires { place ≤ p.end }
     ensures { result ≡ first (check Length p.at Rest (p.end - place) 0 0 ∷ []) }
 {
-    rows::one(Check(Row::Length, p.at, Field::Rest, p.end - place, 0, 0))
+    rows::first(&[Check(Row::Length, p.at, Field::Rest, p.end - place, 0, 0)])
 }
 
 // The packets, which stand behind the header and fill the precinct.
@@ -179,30 +172,27 @@ fn packets(s: &[u8], cells: &mut [i64], c: Setting, p: Precinct) -> Packed
     ensures { IsPacked s.now c p (packets s.now c p.row p.column p.at cells.old) cells.old result cells.new }
 {
     let shape = c.shape;
-    let n = slot_count(shape);
     let mut at = p.end - bits::u24_at(s, p.at);
     let mut raws: [usize; 10] = [0; 10];
     let mut bytes = Bytes::of_precincts(at - p.at);
-    let mut slot = 0;
-    while slot < n {
+    for slot in 0..slot_count(shape) {
         let f = packet_turn(s, cells, c, p, slot, at, raws);
         let v = f.verdict;
         match v {
-            Verdict::Fine => {
+            Ok(()) => {
                 at = f.at;
                 let flags = f.raws;
                 raws = flags;
                 let more = f.bytes;
                 bytes = bytes.and(more);
             }
-            Verdict::Refused(_) => {
+            Err(_) => {
                 return Packed {
                     verdict: v,
                     bytes: NOTHING,
                 };
             }
         }
-        slot += 1;
     }
     let v = rest_row(p, at);
     Packed {
@@ -216,8 +206,8 @@ fn packets_by(v: Verdict, s: &[u8], cells: &mut [i64], c: Setting, p: Precinct) 
     ensures { IsPacked s.now c p (packets_by s.now c p.row p.column p.at v cells.old) cells.old result cells.new }
 {
     match v {
-        Verdict::Fine => packets(s, cells, c, p),
-        Verdict::Refused(_) => Packed {
+        Ok(()) => packets(s, cells, c, p),
+        Err(_) => Packed {
             verdict: v,
             bytes: NOTHING,
         },

@@ -15,14 +15,11 @@ fn raised_at(c: Setting, p: Precinct, b: usize, top: usize) -> usize
     requires { Settled c × (p.row < Npy c.shape) × (b < NL c.shape) }
     ensures { result ≡ raised_by c p b top }
 {
-    let shape = c.shape;
-    if has_lines(shape, p.row, b) {
-        let t = truncation_of(c, p, b);
-        if top < t {
-            return t;
-        }
+    if has_lines(c.shape, p.row, b) {
+        top.max(truncation_of(c, p, b))
+    } else {
+        top
     }
-    top
 }
 
 // The largest T of all bands, with those of one precinct more.
@@ -30,13 +27,9 @@ pub fn raised(c: Setting, p: Precinct, tops: [usize; 40]) -> [usize; 40]
     requires { Settled c × (p.row < Npy c.shape) }
     ensures { result ≡ raised c p (NL c.shape) tops }
 {
-    let shape = c.shape;
-    let n = band_count(shape);
     let mut out = tops;
-    let mut b = 0;
-    while b < n {
+    for b in 0..band_count(c.shape) {
         out[b] = raised_at(c, p, b, tops[b]);
-        b += 1;
     }
     out
 }

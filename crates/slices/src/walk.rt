@@ -1,6 +1,6 @@
 // The walk by declared lengths: slices whose precincts are stepped over, whatever stands in them.
 ghost use Rattle.std.specs.Prelude.{◌≡◌, ◌+◌, ◌≤◌, ◌<◌, ◌^◌, length};
-ghost use Rattle.rows.specs.declared.Verdict.TheVariants.{Fine};
+ghost use Rattle.rows.specs.Rows.{Fine};
 ghost use Rattle.layout.specs.Precincts.{slices};
 ghost use Rattle.packets.specs.Ready.{Settled};
 ghost use Rattle.slices.specs.Slice.{slice_header_bytes};
@@ -10,7 +10,7 @@ use crate::slice_row;
 use layout::precincts::precincts_in_slice;
 use packets::Setting;
 use picture::segment::left;
-use rows::{AMPLE, Check, Field, HOLDS, Row, Verdict};
+use rows::{AMPLE, Check, Field, Row, Verdict};
 
 // Where a walk stands: the verdict, and the next place, or the place of what is refused.
 #[derive(Clone, Copy)]
@@ -24,8 +24,8 @@ fn step(v: Verdict, at: usize, to: usize) -> Walked
     ensures { (stepped v at to ≡ stepped result.verdict result.at result.at) × (result.verdict ≡ v) × (v ≡ Fine → result.at ≡ to) }
 {
     match v {
-        Verdict::Fine => Walked { verdict: v, at: to },
-        Verdict::Refused(_) => Walked { verdict: v, at: at },
+        Ok(()) => Walked { verdict: v, at: to },
+        Err(_) => Walked { verdict: v, at: at },
     }
 }
 
@@ -38,15 +38,9 @@ fn walk_turn(s: &[u8], c: Setting, n: usize, at: usize) -> Walked
     let lprc = bits::u24_at(s, at);
     let size = header + lprc;
     let there = left(s, at);
-    let v = rows::first([
+    let v = rows::first(&[
         Check(Row::Cut, at, Field::Lprc, there, 3, AMPLE),
         Check(Row::Length, at, Field::Precinct, size, 0, there),
-        HOLDS,
-        HOLDS,
-        HOLDS,
-        HOLDS,
-        HOLDS,
-        HOLDS,
     ]);
     step(v, at, at + size)
 }
@@ -58,24 +52,22 @@ fn walk_precincts(s: &[u8], c: Setting, t: usize, at: usize) -> Walked
 {
     let count = precincts_in_slice(c.shape, t);
     let mut place = at;
-    let mut n = 0;
-    while n < count {
+    for n in 0..count {
         let r = walk_turn(s, c, n, place);
         let v = r.verdict;
         place = r.at;
         match v {
-            Verdict::Fine => {}
-            Verdict::Refused(_) => {
+            Ok(()) => {}
+            Err(_) => {
                 return Walked {
                     verdict: v,
                     at: place,
                 };
             }
         }
-        n += 1;
     }
     Walked {
-        verdict: Verdict::Fine,
+        verdict: Ok(()),
         at: place,
     }
 }
@@ -85,8 +77,8 @@ fn walk_by(v: Verdict, s: &[u8], c: Setting, t: usize, at: usize) -> Walked
     ensures { Walks s.now (walk_by s.now c v t at) result }
 {
     match v {
-        Verdict::Fine => walk_precincts(s, c, t, at + 6),
-        Verdict::Refused(_) => Walked { verdict: v, at: at },
+        Ok(()) => walk_precincts(s, c, t, at + 6),
+        Err(_) => Walked { verdict: v, at: at },
     }
 }
 

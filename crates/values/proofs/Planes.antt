@@ -1,6 +1,8 @@
 -- The bitplanes of a group, from the first on as the code reads them, and the bits of a nibble. Assumes nothing.
 use mathlib.Core.Path.{◌≡◌, refl, ◌∙◌}
+use mathlib.Core.Bool.{Bool, true, false, not, cond}
 use mathlib.Core.List.{List}
+use mir.Val.{bool_byte}
 use Prim.Native.Nat.{ℕ, zero, suc, ◌+◌, ◌-◌, ◌*◌, ◌/◌, ◌%◌, ◌^◌, ◌≤◌, ◌<◌}
 use native.Mathlib.Nat.{lt_of_lt_of_le, add-zero, pow-suc, mul_assoc, mul-le-mul_right, one-mul}
 use native.Mathlib.Numerals.{add-one}
@@ -54,3 +56,8 @@ sized {dat} {from} {n} {k} h e = record { value = e; small = rw e (lt_of_lt_of_l
 pub more_sized : {dat : List ℕ} {from n r v : ℕ} (k : ℕ) {w : ℕ} → Sized dat from n k v → IsField dat (4 * (from + n)) 4 r → k ≤ 3 → n < 31
     → w ≡ 2 * v + r / 2 ^ (3 - k) % 2 → Sized dat from (n + 1) k w
 more_sized {dat} {from} {n} k q x h l e = rw (add-one n) (sized (omega arith) (omega (arith, planes_more dat from n k, four_bit k h x, q.value)))
+
+-- the number of a test that says no
+pub bit_is : (b : Bool) {r : ℕ} → r ≡ bool_byte (not b) → (r ≡ cond b 0 1) × (r ≤ 1)
+bit_is true e = (e, omega (arith, e))
+bit_is false e = (e, omega (arith, e))

@@ -1,7 +1,7 @@
 -- What the steps of the code answer. The line's definitions do not need these.
-use Rattle.std.specs.Prelude.{Bool, cond, List, ◌≡◌, ℕ, ◌+◌, ◌-◌, ◌*◌, ◌^◌, ◌≤◌, ◌<◌, min, max, eqb, ℤ, get_or}
+use Rattle.std.specs.Prelude.{Bool, cond, List, ◌≡◌, ℕ, ◌+◌, ◌-◌, ◌*◌, ◌^◌, ◌≤◌, ◌<◌, min, eqb, ℤ, get_or}
 use Rattle.bits.specs.Fields.{field}
-use Rattle.bits.specs.Groups.{Ng, nibbles_of, held_m}
+use Rattle.bits.specs.Groups.{Ng, nibbles_of}
 use Rattle.quantiser.specs.Inverse.{coefficient_of, scaled}
 use Rattle.values.specs.Group.{planes, sign_bits, sign_bits_of, index}
 use Rattle.values.specs.Line.{place, count_place, M, placed}
@@ -11,14 +11,6 @@ use Rattle.values.specs.declared.Line.{Line}
 use Rattle.values.specs.declared.Next.{Next}
 
 -- ---- values, each with the bound that a sum asks for
-
-pub record Chosen (which : Bool) (a b r : ℕ) : Type 0 where
-  pub value : r ≡ cond which a b
-  pub most : r ≤ max a b
-
-pub record CountIs (z : ℤ) (r : ℕ) : Type 0 where
-  pub value : r ≡ held_m z
-  pub most : r ≤ 31
 
 pub record SignBit (v r : ℕ) : Type 0 where
   pub value : r ≡ cond (eqb v 0) 0 1

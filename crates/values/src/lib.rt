@@ -4,12 +4,12 @@
 pub mod pairs;
 mod words;
 
-ghost use Rattle.std.specs.Prelude.{◌≡◌, ◌-◌, ◌≤◌, ◌<◌, ◌^◌, min, eqb, pos, length};
-ghost use Rattle.whole.specs.Numbers.{signed};
-ghost use Rattle.bits.specs.Groups.{Takes};
+ghost use Rattle.std.specs.Prelude.{◌≡◌, ◌≤◌, ◌^◌, pos, length};
 ghost use Rattle.values.specs.Line.{Fit, placed, line_values};
 ghost use Rattle.values.specs.Lanes.{IsPairs, Short};
-ghost use Rattle.values.specs.Steps.{Chosen, CountIs, SignBit, SignBits, Magnitudes, sign_field, InCells, GroupFit, group_values, HasGroup, group_of};
+ghost use Rattle.values.specs.Steps.{SignBit, SignBits, Magnitudes, sign_field, InCells, GroupFit, group_values, HasGroup, group_of};
+
+use bits::group::{held, nibbles_of};
 
 // Where a line stands in the cells, and its precinct's truncation position in its band. Coefficient x has the cell first + x·stride, and the count
 // cell of a code group stands `area` cells behind that of its first coefficient.
@@ -38,43 +38,6 @@ pub struct Next {
     pub sign: usize,
 }
 
-// The bitplane count in a count cell.
-fn count_in(z: i64) -> usize
-    ensures { CountIs z result }
-{
-    if z < 0 { 0 } else { z as usize % 32 }
-}
-
-// Choices are functions of their own, so that the code around them is one straight way. This one: a - b, and 0 where b is the larger.
-fn less(a: usize, b: usize) -> usize
-    ensures { result ≡ a - b }
-{
-    if b < a { a - b } else { 0 }
-}
-
-fn smaller(a: usize, b: usize) -> usize
-    ensures { result ≡ min a b }
-{
-    if b < a { b } else { a }
-}
-
-fn chosen(which: bool, a: usize, b: usize) -> usize
-    ensures { Chosen which a b result }
-{
-    if which { a } else { b }
-}
-
-// The nibbles that a code group takes of the data stretch.
-fn nibbles_of(m: usize, t: usize, fs: bool) -> usize
-    requires { m ≤ 31 }
-    ensures { Takes m t fs result }
-{
-    if m <= t {
-        return 0;
-    }
-    if fs { m - t } else { m - t + 1 }
-}
-
 // The sizes of a group's four coefficients, from n bitplanes: a nibble has one bit of each.
 fn magnitudes(dat: &[u8], from: usize, n: usize) -> [usize; 4]
     requires { (n ≤ 31) × (from ≤ 2 ^ 63) }
@@ -84,14 +47,12 @@ fn magnitudes(dat: &[u8], from: usize, n: usize) -> [usize; 4]
     let mut v1: usize = 0;
     let mut v2: usize = 0;
     let mut v3: usize = 0;
-    let mut j: usize = 0;
-    while j < n {
+    for j in 0..n {
         let plane = bits::nibble(dat, from + j);
         v0 = 2 * v0 + plane / 8;
         v1 = 2 * v1 + plane / 4 % 2;
         v2 = 2 * v2 + plane / 2 % 2;
         v3 = 2 * v3 + plane % 2;
-        j += 1;
     }
     [v0, v1, v2, v3]
 }
@@ -111,7 +72,7 @@ fn sign_field(dat: &[u8], sgn: &[u8], fs: bool, next: Next) -> usize
 fn sign_bit(v: usize) -> usize
     ensures { SignBit v result }
 {
-    if v == 0 { 0 } else { 1 }
+    usize::from(v != 0)
 }
 
 // The sign bits of four sizes.
@@ -119,15 +80,6 @@ fn sign_bits(v: [usize; 4]) -> usize
     ensures { SignBits v result }
 {
     sign_bit(v[0]) + sign_bit(v[1]) + sign_bit(v[2]) + sign_bit(v[3])
-}
-
-// A size with its sign bit: an index, or a coefficient.
-fn signed_index(sign: usize, v: usize) -> i64
-    requires { v < 2 ^ 63 }
-    ensures { result ≡ signed (eqb sign 1) v }
-{
-    let size = v as i64;
-    if sign == 1 { -size } else { size }
 }
 
 // The part of a code group that the line has: `count` of its four coefficients, and coefficient k has the cell first + k·stride.
@@ -145,10 +97,8 @@ fn clear_group(cells: &mut [i64], first: usize, stride: usize, count: usize)
     requires { InCells first stride count (length cells.old) }
     ensures { cells.new ≡ placed first stride (λ _. pos 0) count cells.old }
 {
-    let mut k: usize = 0;
-    while k < count {
+    for k in 0..count {
         cells[first + k * stride] = 0;
-        k += 1;
     }
 }
 
@@ -168,13 +118,15 @@ fn coded_group(
     let stride = group.stride;
     let count = group.count;
     let fs = how.fs;
-    let v = magnitudes(dat, next.at + chosen(fs, 0, 1), less(group.m, group.t));
+    let planes = next.at + usize::from(!fs);
+    let v = magnitudes(dat, planes, group.m.saturating_sub(group.t));
     let signs = sign_field(dat, sgn, fs, next);
     let mut used: usize = 0;
-    let mut k: usize = 0;
-    while k < count {
+    for k in 0..count {
         let size = v[k];
-        let index = signed_index((signs >> (3 - chosen(fs, used, k))) % 2, size);
+        let place = if fs { used } else { k };
+        let negative = (signs >> (3 - place)) % 2 == 1;
+        let index = quantiser::signed(negative, size as u64);
         let to = first + k * stride;
         cells[to] = quantiser::scaled_coefficient(
             how.uniform,
@@ -184,12 +136,13 @@ fn coded_group(
             index,
         );
         used += sign_bit(size);
-        k += 1;
     }
     let all = sign_bits(v);
-    let at = next.at + nibbles_of(group.m, group.t, fs);
-    let sign = next.sign + chosen(fs, all, 0);
-    Next { at: at, sign: sign }
+    let taken = if fs { all } else { 0 };
+    Next {
+        at: next.at + nibbles_of(group.m, group.t, fs),
+        sign: next.sign + taken,
+    }
 }
 
 // A group into its cells. The coarser the picture, the more groups are truncated whole: these take nothing and are only cleared.
@@ -225,22 +178,12 @@ fn short_group(
     requires { IsPairs pairs.now × GroupFit how group next (length cells.old) × Short group next (length dat.now) }
     ensures { group_values dat.now sgn.now how group next cells.old ≡ (result, cells.new) }
 {
-    let n = less(group.m, group.t);
-    let f = words::read_group(pairs, dat, sgn, how.fs, n, next.at, next.sign);
-    words::put(
-        cells,
-        how.uniform & (0 < group.t),
-        group.first,
-        group.stride,
-        group.m,
-        group.t,
-        how.fq,
-        f.sizes,
-        f.signs,
-    );
+    let n = group.m.saturating_sub(group.t);
+    let found = words::read_group(pairs, dat, sgn, how.fs, n, next);
+    words::put(cells, how.uniform & (0 < group.t), how.fq, group, found);
     Next {
-        at: next.at + f.taken,
-        sign: next.sign + f.used,
+        at: next.at + found.taken,
+        sign: next.sign + found.used,
     }
 }
 
@@ -257,7 +200,7 @@ fn any_group(
     requires { IsPairs pairs.now × GroupFit how group next (length cells.old) }
     ensures { group_values dat.now sgn.now how group next cells.old ≡ (result, cells.new) }
 {
-    let n = less(group.m, group.t);
+    let n = group.m.saturating_sub(group.t);
     let short = (group.count == 4) & (n <= 14) & (next.at / 2 + 8 <= dat.len());
     if short {
         return short_group(pairs, dat, sgn, cells, how, group, next);
@@ -272,12 +215,12 @@ fn group_of(cells: &[i64], line: Line, g: usize) -> Group
 {
     let x = 4 * g;
     let first = line.first + x * line.stride;
-    let held = first + line.area;
+    let count_cell = cells[first + line.area];
     Group {
-        first: first,
+        first,
         stride: line.stride,
-        count: smaller(4, line.width - x),
-        m: count_in(cells[held]),
+        count: (line.width - x).min(4),
+        m: held(count_cell) % 32,
         t: line.t,
     }
 }
@@ -296,24 +239,11 @@ pub fn line_values(
     requires { IsPairs pairs.now × Fit how line from (length cells.old) }
     ensures { line_values dat.now sgn.now how line from cells.old ≡ (result, cells.new) }
 {
-    let groups = (line.width + 3) / 4;
-    let mut at = from.at;
-    let mut sign = from.sign;
-    let mut g: usize = 0;
-    while g < groups {
+    let groups = line.width.div_ceil(4);
+    let mut next = from;
+    for g in 0..groups {
         let group = group_of(cells, line, g);
-        let next = any_group(
-            pairs,
-            dat,
-            sgn,
-            cells,
-            how,
-            group,
-            Next { at: at, sign: sign },
-        );
-        at = next.at;
-        sign = next.sign;
-        g += 1;
+        next = any_group(pairs, dat, sgn, cells, how, group, next);
     }
-    Next { at: at, sign: sign }
+    next
 }

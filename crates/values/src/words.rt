@@ -7,6 +7,9 @@ ghost use Rattle.quantiser.specs.Inverse.{coefficient_of, scaled, Carried};
 ghost use Rattle.values.specs.Line.{placed};
 ghost use Rattle.values.specs.Lanes.{spread, IsPairs, IsFound, Sizes, lane_value, fourth};
 
+use crate::{Group, Next};
+use bits::group::nibbles_of;
+
 // The sizes that the last eight nibbles of w make, each nibble a plane. Fewer planes have zeros before them.
 fn eight_planes(pairs: &[usize; 256], w: usize) -> usize
     requires { IsPairs pairs.now }
@@ -74,40 +77,33 @@ fn signs_before(pairs: &[usize; 256], dat: &[u8], n: usize, at: usize) -> Found
     let sizes = sizes_of(pairs, w, n);
     let signs = (w >> (4 * n)) % 16;
     Found {
-        sizes: sizes,
-        signs: signs,
-        taken: crate::nibbles_of(n, 0, false),
+        sizes,
+        signs,
+        taken: nibbles_of(n, 0, false),
         used: 0,
     }
 }
 
 // A group with its signs in the sign subpacket: the next bit of it for each size that is not 0.
-fn signs_apart(
-    pairs: &[usize; 256],
-    dat: &[u8],
-    sgn: &[u8],
-    n: usize,
-    at: usize,
-    sign: usize,
-) -> Found
-    requires { IsPairs pairs.now × (n ≤ 14) × (at / 2 + 8 ≤ length dat.now) }
-    ensures { IsFound dat.now sgn.now true n at sign result }
+fn signs_apart(pairs: &[usize; 256], dat: &[u8], sgn: &[u8], n: usize, next: Next) -> Found
+    requires { IsPairs pairs.now × (n ≤ 14) × (next.at / 2 + 8 ≤ length dat.now) }
+    ensures { IsFound dat.now sgn.now true n next.at next.sign result }
 {
-    let w = nibbles_at(dat, at, n) >> 4;
+    let w = nibbles_at(dat, next.at, n) >> 4;
     let sizes = sizes_of(pairs, w, n);
     let a = crate::sign_bit(sizes % 65536);
     let b = a + crate::sign_bit((sizes >> 16) % 65536);
     let c = b + crate::sign_bit((sizes >> 32) % 65536);
     let d = c + crate::sign_bit((sizes >> 48) % 65536);
-    let four = four_bits(sgn, sign);
+    let four = four_bits(sgn, next.sign);
     let signs = (four >> 3) % 2 * 8
         + (four >> (3 - a)) % 2 * 4
         + (four >> (3 - b)) % 2 * 2
         + (four >> (3 - c)) % 2;
     Found {
-        sizes: sizes,
-        signs: signs,
-        taken: crate::nibbles_of(n, 0, true),
+        sizes,
+        signs,
+        taken: nibbles_of(n, 0, true),
         used: d,
     }
 }
@@ -119,16 +115,15 @@ pub fn read_group(
     sgn: &[u8],
     fs: bool,
     n: usize,
-    at: usize,
-    sign: usize,
+    next: Next,
 ) -> Found
-    requires { IsPairs pairs.now × (n ≤ 14) × (at / 2 + 8 ≤ length dat.now) }
-    ensures { IsFound dat.now sgn.now fs n at sign result }
+    requires { IsPairs pairs.now × (n ≤ 14) × (next.at / 2 + 8 ≤ length dat.now) }
+    ensures { IsFound dat.now sgn.now fs n next.at next.sign result }
 {
     if fs {
-        signs_apart(pairs, dat, sgn, n, at, sign)
+        signs_apart(pairs, dat, sgn, n, next)
     } else {
-        signs_before(pairs, dat, n, at)
+        signs_before(pairs, dat, n, next.at)
     }
 }
 
@@ -144,32 +139,24 @@ fn four_into(cells: &mut [i64], first: usize, stride: usize, a: i64, b: i64, c: 
 }
 
 // The coefficient of a size and a sign bit, on the scale of the wavelet.
-fn value_of(uniform: bool, m: usize, t: usize, fq: usize, v: usize, sign: usize) -> i64
-    requires { Carried m t v × (fq ≤ 15) }
-    ensures { result ≡ scaled fq (coefficient_of uniform m t (signed (eqb sign 1) v)) }
+fn value_of(uniform: bool, fq: usize, group: Group, v: usize, sign: usize) -> i64
+    requires { Carried group.m group.t v × (fq ≤ 15) }
+    ensures { result ≡ scaled fq (coefficient_of uniform group.m group.t (signed (eqb sign 1) v)) }
 {
-    let size = quantiser::size_by(uniform, m as u64, t as u64, v as u64) << fq;
-    crate::signed_index(sign, size as usize)
+    let size = quantiser::size_by(uniform, group.m as u64, group.t as u64, v as u64) << fq;
+    quantiser::signed(sign == 1, size)
 }
 
 // The coefficients of a whole group into its cells.
-pub fn put(
-    cells: &mut [i64],
-    uniform: bool,
-    first: usize,
-    stride: usize,
-    m: usize,
-    t: usize,
-    fq: usize,
-    sizes: usize,
-    signs: usize,
-)
-    requires { (first + 3 * stride < length cells.old) × Sizes m t sizes × (fq ≤ 15) }
-    ensures { cells.new ≡ placed first stride (lane_value uniform m t fq sizes signs) 4 cells.old }
+pub(crate) fn put(cells: &mut [i64], uniform: bool, fq: usize, group: Group, found: Found)
+    requires { (group.first + 3 * group.stride < length cells.old) × Sizes group.m group.t found.sizes × (fq ≤ 15) }
+    ensures { cells.new ≡ placed group.first group.stride (lane_value uniform group.m group.t fq found.sizes found.signs) 4 cells.old }
 {
-    let a = value_of(uniform, m, t, fq, sizes % 65536, (signs >> 3) % 2);
-    let b = value_of(uniform, m, t, fq, (sizes >> 16) % 65536, (signs >> 2) % 2);
-    let c = value_of(uniform, m, t, fq, (sizes >> 32) % 65536, (signs >> 1) % 2);
-    let d = value_of(uniform, m, t, fq, (sizes >> 48) % 65536, signs % 2);
-    four_into(cells, first, stride, a, b, c, d);
+    let sizes = found.sizes;
+    let signs = found.signs;
+    let a = value_of(uniform, fq, group, sizes % 65536, (signs >> 3) % 2);
+    let b = value_of(uniform, fq, group, (sizes >> 16) % 65536, (signs >> 2) % 2);
+    let c = value_of(uniform, fq, group, (sizes >> 32) % 65536, (signs >> 1) % 2);
+    let d = value_of(uniform, fq, group, (sizes >> 48) % 65536, signs % 2);
+    four_into(cells, group.first, group.stride, a, b, c, d);
 }

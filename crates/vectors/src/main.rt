@@ -49,21 +49,15 @@ fn read_file(
     }
 }
 
-// What a word is: that of a mode, or a stream's name.
-#[derive(Clone, Copy)]
-enum Word {
-    Mode(Mode),
-    Name,
-}
-
-fn word_is(word: &str) -> Word {
+// The mode that a word names. Any other word is a stream's name.
+fn mode_of(word: &str) -> Option<Mode> {
     match word {
-        "--damaged" => Word::Mode(Mode::Damaged),
-        "--places" => Word::Mode(Mode::Places),
-        "--damaged-places" => Word::Mode(Mode::DamagedPlaces),
-        "--bytes" => Word::Mode(Mode::Bytes),
-        "--damaged-bytes" => Word::Mode(Mode::DamagedBytes),
-        _ => Word::Name,
+        "--damaged" => Some(Mode::Damaged),
+        "--places" => Some(Mode::Places),
+        "--damaged-places" => Some(Mode::DamagedPlaces),
+        "--bytes" => Some(Mode::Bytes),
+        "--damaged-bytes" => Some(Mode::DamagedBytes),
+        _ => None,
     }
 }
 
@@ -100,12 +94,10 @@ fn page_of(
 fn first_line(bytes: &[u8]) -> usize
     ensures { IsPrefixLen result bytes.now }
 {
-    for (i, b) in bytes.iter().enumerate() {
-        if *b == b'\n' {
-            return i;
-        }
-    }
-    bytes.len()
+    bytes
+        .iter()
+        .position(|b| *b == b'\n')
+        .unwrap_or(bytes.len())
 }
 
 fn print_line(rt: &impl Print, bytes: &[u8]) -> io::Result<()> {
@@ -138,20 +130,18 @@ fn compared_caption(rt: &impl Print, name: &str, caption: bool, stored: &[u8]) -
     }
 }
 
-// Of one stream: 1 where what is said of it is what is stored, and 1 where a caption's yes or no is.
+// Of one stream: whether what is said of it is what is stored, and whether a caption's yes or no is stored.
 #[derive(Clone, Copy)]
 struct Outcome {
-    agreed: usize,
-    told: usize,
+    agreed: bool,
+    told: bool,
 }
 
 fn outcome_of(
     rt: &(impl Files + Print + Eprint + AllocGlobal),
     mode: Mode,
     name: &str,
-) -> io::Result<Outcome>
-    ensures { IfOk result (λ o. (o.agreed ≤ 1) × (o.told ≤ 1)) }
-{
+) -> io::Result<Outcome> {
     let mut page = [0u8; 65536];
     let said = page_of(rt, mode, name, &mut page)?;
     let size = said.size;
@@ -162,14 +152,14 @@ fn outcome_of(
     let told = read_file(rt, name, ".caption", false, &mut line)?;
     if told == 0 {
         return Ok(Outcome {
-            agreed: one_if(same),
-            told: 0,
+            agreed: same,
+            told: false,
         });
     }
     let yes = compared_caption(rt, name, said.caption, &line[..told])?;
     Ok(Outcome {
-        agreed: one_if(same & yes),
-        told: 1,
+        agreed: same & yes,
+        told: true,
     })
 }
 
@@ -192,29 +182,16 @@ fn with_word(
     requires { (t.agreed ≤ t.streams) × (t.told ≤ t.streams) × (t.streams < i) }
     ensures { IfOk result (λ r. (r.agreed ≤ r.streams) × (r.told ≤ r.streams) × (r.streams ≤ i)) }
 {
-    match word_is(word) {
-        Word::Mode(m) => Ok(Tally {
-            mode: m,
-            streams: t.streams,
-            agreed: t.agreed,
-            told: t.told,
-        }),
-        Word::Name => {
-            let o = outcome_of(rt, t.mode, word)?;
-            Ok(Tally {
-                mode: t.mode,
-                streams: t.streams + 1,
-                agreed: t.agreed + o.agreed,
-                told: t.told + o.told,
-            })
-        }
+    if let Some(mode) = mode_of(word) {
+        return Ok(Tally { mode, ..t });
     }
-}
-
-fn one_if(b: bool) -> usize
-    ensures { result ≤ 1 }
-{
-    if b { 1 } else { 0 }
+    let o = outcome_of(rt, t.mode, word)?;
+    Ok(Tally {
+        mode: t.mode,
+        streams: t.streams + 1,
+        agreed: t.agreed + usize::from(o.agreed),
+        told: t.told + usize::from(o.told),
+    })
 }
 
 fn print_tally(rt: &impl Print, agreed: usize, differing: usize, told: usize) -> io::Result<()> {
@@ -228,11 +205,12 @@ fn main(rt: HostRuntime) -> io::Result<()> {
         agreed: 0,
         told: 0,
     };
+    // not `each_file`: a word may be a mode's, and the tally grows from word to word
     for i in 1..usize::MAX {
-        match input::word(&rt, i)? {
-            Some(word) => t = with_word(&rt, t, i, word.as_str())?,
-            None => break,
-        }
+        let Some(word) = input::word(&rt, i)? else {
+            break;
+        };
+        t = with_word(&rt, t, i, word.as_str())?;
     }
     print_tally(&rt, t.agreed, t.streams - t.agreed, t.told)
 }

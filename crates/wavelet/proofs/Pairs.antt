@@ -38,9 +38,6 @@ pair_onto l h t odd even up inside = record {
     place (suc (suc k)) b = absurd (omega arith)
 
 module _ {before high x next : ℤ} (small : SmallPair before high x next) where
-  pub even_small : Small x high next
-  even_small = record { small_x = omega (arith, small.small_x); small_l = omega (arith, small.small_high); small_r = omega (arith, small.small_next) }
-
   pub odd_small : {S : Steps ℤ} → Tame S → Small high before (S.even x high next)
   odd_small T = record {
     small_x = omega (arith, small.small_high);

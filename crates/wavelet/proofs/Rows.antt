@@ -19,9 +19,9 @@ use Rattle.wavelet.specs.Grids.{Row, SamplesWithin, RowLevels, AcrossLevels, acr
 use Rattle.wavelet.proofs.Halves.{low_half, below_size, size_above, low_inside, high_inside}
 use Rattle.wavelet.proofs.Related.{equal, woven_keeps}
 use Rattle.wavelet.proofs.Transforms.{down_keeps}
-use Rattle.whole.proofs.Filling.{onto_none, onto_turn}
+use Rattle.whole.proofs.Filling.{onto_turn}
 use Rattle.wavelet.proofs.Levels.{low_place}
-use Rattle.wavelet.proofs.Passes.{one_place, row_start, samples_le}
+use Rattle.wavelet.proofs.Passes.{one_place, row_start}
 
 -- ---- a row of the bands is the levels of the row
 
@@ -72,9 +72,6 @@ pub record AcrossDone (S : Steps ℤ) (w h nx ny q : ℕ) (x y : List ℤ) : Typ
   pub within : SamplesWithin w h (2 ^ 48) y
 
 module _ {w h nx ny : ℕ} {x : List ℤ} (C : Component w h nx ny (length x)) (W : SamplesWithin w h (2 ^ 40) x) where
-  pub across_begins : (S : Steps ℤ) → AcrossDone S w h nx ny 0 x x
-  across_begins S = record { most = omega arith; onto = onto_none (λ i a. absurd (omega arith)); within = samples_le W (omega arith) }
-
   row_at : (q c : ℕ) → q * (w * 2 ^ ny) + c ≡ q * 2 ^ ny * w + c
   row_at q c = ap (λ (r : ℕ). r + c) (row_start w ny q)
 

@@ -15,7 +15,7 @@ use Rattle.wavelet.specs.Lines.{line, Line}
 use Rattle.wavelet.specs.Runs.{right, Small, SmallPair, paired}
 use Rattle.wavelet.proofs.Borders.{filter_even, filter_odd}
 use Rattle.wavelet.proofs.Tame.{Tame, filter_even_size}
-use Rattle.whole.proofs.Filling.{line_left, line_next, store_onto, onto_none}
+use Rattle.whole.proofs.Filling.{line_left, line_next, store_onto}
 
 pub first_filter : (S : Steps ℤ) (n : ℕ) → 2 ≤ n → (X : ℕ → ℤ) → S.even (X 0) (X 1) (X 1) ≡ filter S n X 0
 first_filter S n two X = sym (filter_even S n two X 0 (omega arith) refl ∙ ap (S.even (X 0) (X 1)) (ap X (omega arith)))
@@ -85,15 +85,6 @@ module _ {base stride n : ℕ} {x : List ℤ} (L : Line base stride n (2 ^ 60) x
   first_is S = rw (at_first.0, at_first.1) at (first_filter S n L.two (line base stride x))
 
 module _ {S : Steps ℤ} {base stride n : ℕ} {x : List ℤ} (L : Line base stride n (2 ^ 60) x) where
-  pub running_starts : {first : ℤ} → first ≡ filter S n (line base stride x) 0 → Running S base stride n 1 first (cell x (base + stride)) x x
-  running_starts e = record {
-    odd = refl;
-    most = L.two;
-    onto = onto_none (λ i a. absurd (omega arith));
-    even_is = e;
-    high_is = ap (cell x) (omega arith);
-  }
-
   module _ (T : Tame S) {j : ℕ} {even high : ℤ} {y : List ℤ} (R : Running S base stride n j even high x y) where
     behind : (k : ℕ) → j ≤ k → cell y (base + k * stride) ≡ line base stride x k
     behind k h = line_left base stride L.stride_up R.onto k (λ a. absurd (omega arith))

@@ -27,9 +27,6 @@ module _ {l r more : ℤ} (h : Summable l r more) where
 
 -- each result, by the distance rule from 0
 module _ {x l r : ℤ} (h : Small x l r) where
-  pub summable : (c : ℕ) → c < 4 → Summable l r (pos c)
-  summable c b = record { small_l = h.small_l; small_r = h.small_r; small_more = b }
-
   near_l : Within (nat_abs l) l (pos 0)
   near_l = within_of_size l (omega arith)
 

@@ -2,13 +2,13 @@
 -- so. Assumes nothing.
 use mathlib.Core.Path.{◌≡◌, ap}
 use Prim.Native.Nat.{ℕ, ◌+◌, ◌*◌, ◌%◌, ◌≤◌, ◌<◌}
-use native.Mathlib.Decide.{ℕ_discrete}
 use native.Mathlib.Nat.{le_trans}
 use native.Mathlib.Omega.{arith}
-use borrow.Author.Tests.{eq-eqb, ne_eqb}
 use lib.IntN.{ℤ, pos, nat_abs, ◌+ℤ◌, ◌-ℤ◌, +ℤ_comm}
 use lib.Signed.{shr_z}
 use Rattle.whole.specs.Numbers.{ceil_div, gap}
+use Rattle.whole.specs.declared.Kind.{Kind}
+use Rattle.whole.specs.declared.Kind.TheVariants.{Samples, Numbers}
 use Rattle.wavelet.specs.Filter.{Steps, samples, filter}
 use Rattle.wavelet.specs.Kinds.{rises, steps_of}
 use Rattle.wavelet.specs.Distance.{numbers}
@@ -39,13 +39,9 @@ tame_rises = record {
   zeroed = rises_zeroed;
 }
 
-pub tame : (kind : ℕ) → Tame (steps_of kind)
-unfolding steps_of
-tame kind = pick (ℕ_discrete kind 0)
-  where
-    pick : Dec (kind ≡ 0) → Tame (steps_of kind)
-    pick (yes e) = rw (eq-eqb kind 0 e) tame_samples
-    pick (no e) = rw (ne_eqb kind 0 e) tame_rises
+pub tame : (kind : Kind) → Tame (steps_of kind)
+tame Samples = tame_samples
+tame Numbers = tame_rises
 
 -- ---- how large values become
 

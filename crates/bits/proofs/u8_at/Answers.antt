@@ -3,9 +3,6 @@ use native.Mathlib.Omega.{arith}
 use Rattle.bits.proofs.Laws.{is_byte, is_past}
 use Rattle.bits.proofs.u8_at.Goals as goal
 
-pub overflow_cast-result : goal.overflow_cast-result
-overflow_cast-result c = omega (arith, c.type_inv.s c.args.at)
-
 pub returns-then-at-s : goal.returns-then-at-s
 returns-then-at-s c = is_byte c.args.at (omega (arith, c.type_inv.s c.args.at))
 

@@ -8,17 +8,6 @@ use Rattle.colour.proofs.inverse.Goals as goal
 k : (c : Start) → Fitting c.args.i
 k c = fitting c.requires
 
-pub overflow_add-green : goal.overflow_add-green
-overflow_add-green c =
-    let f = k (goal.at.overflow_add-green c).Start in
-    simp (to_z-of_z, f.i₁, f.i₂) f.sum
-
-pub overflow_sub-green : goal.overflow_sub-green
-unfolding inverse_rct
-overflow_sub-green c =
-    let f = k (goal.at.overflow_sub-green c).Start in
-    simp (to_z-of_z, f.i₀, f.i₁, f.i₂, f.sum, f.quarter) f.o₁
-
 pub overflow_add-result : goal.overflow_add-result
 unfolding inverse_rct
 overflow_add-result c =

@@ -7,8 +7,7 @@ use mir.Facts.{to_z-of_z, to_z_pos}
 use Rattle.whole.proofs.Machine.{small_fits}
 use Rattle.colour.specs.Rct.{numbers_rct}
 use Rattle.colour.specs.Kinds.{held, sizes, raised_rct}
-use Rattle.colour.specs.declared.Pixel.{Pixel}
-use Rattle.colour.proofs.Laws.{fitting, number_cast, numbers_most}
+use Rattle.colour.proofs.Laws.{fitting, numbers_most}
 use Rattle.colour.proofs.raise.Goals.{After-numbers_rct-e}
 use Rattle.colour.proofs.raise.Goals as goal
 
@@ -21,16 +20,6 @@ module _ (c : After-numbers_rct-e) where
 
   most : (c.numbers_rct-e.result.c0 ≤ 3 * 2 ^ 60) × (c.numbers_rct-e.result.c1 ≤ 3 * 2 ^ 60) × (c.numbers_rct-e.result.c2 ≤ 3 * 2 ^ 60)
   most = rw made (numbers_most (sizes c.args.i) (c.requires.0.c0, c.requires.0.c1, c.requires.0.c2))
-
-pub overflow_cast-i : goal.overflow_cast-i
-overflow_cast-i c = number_cast c.args.i.c0 c.requires.0.c0 (ap (λ (p : Pixel). p.c0) c.requires.1)
-
-pub overflow_cast-i-2 : goal.overflow_cast-i-2
-overflow_cast-i-2 c = number_cast c.args.i.c1 c.requires.0.c1 (ap (λ (p : Pixel). p.c1) c.requires.1)
-
-pub overflow_cast-i-3 : goal.overflow_cast-i-3
-overflow_cast-i-3 c =
-    number_cast c.args.i.c2 c.requires.0.c2 (ap (λ (p : Pixel). p.c2) c.requires.1)
 
 pub overflow_cast-result : goal.overflow_cast-result
 overflow_cast-result c = small_fits _ (omega (arith, most (goal.at.overflow_cast-result c).After-numbers_rct-e))

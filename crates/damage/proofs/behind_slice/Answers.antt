@@ -20,13 +20,13 @@ and-requires c =
       c.requires.4,
     )
 
-pub returns-in-Fine : goal.returns-in-Fine
-returns-in-Fine c =
+pub returns-in-Ok : goal.returns-in-Ok
+returns-in-Ok c =
     let a = c.args in
-    goes_behind a.c a.t a.from a.to a.tops a.r a.cells.now c.in-Fine.is
+    goes_behind a.c a.t a.from a.to a.tops a.r a.cells.now c.in-Ok.is
 
-pub returns-in-Refused : goal.returns-in-Refused
-returns-in-Refused c =
+pub returns-in-Err : goal.returns-in-Err
+returns-in-Err c =
     let a = c.args in
-    loses_behind a.c a.t a.from a.to a.tops a.r a.cells.now c.in-Refused.is c.lose.ensures
+    loses_behind a.c a.t a.from a.to a.tops a.r a.cells.now c.in-Err.is c.lose.ensures
     (c.and.ensures ∙ (λ i. plus (c.of_markers-header.ensures i) (c.of_spoilt.ensures i)))

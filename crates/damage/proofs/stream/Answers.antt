@@ -32,17 +32,17 @@ and-bytes-requires c =
     let l = c.loop-t in
     let a = c.args in
     let r = c.slice-r in
-    let v = c.in-Fine.is in
+    let v = c.in-Ok.is in
     let x : State = (l.place, l.most, l.cells) in
     let goes = turned_goes {turn = turn_by a.s.now a.c a.damaged l.t x} r.ensures v in
     omega (arith, adds_up l.invariant.3 goes (turn_tiles a.s.now a.c a.damaged l.t x _ goes) r.ensures.bytes v, r.ensures.inside v, c.requires.short)
 
-pub returns-in-Refused : goal.returns-in-Refused
+pub returns-in-Err : goal.returns-in-Err
 unfolding stream_by
-returns-in-Refused c =
+returns-in-Err c =
     let l = c.loop-t in
     let a = c.args in
-    let v = c.in-Refused.is in
+    let v = c.in-Err.is in
     let r = c.slice-r in
     let x : State = (l.place, l.most, l.cells) in
     let here = stops_here {s = a.s.now} (stream_pieces_by a.s.now a.c a.damaged (a.at, a.tops, a.cells.now))
@@ -54,7 +54,7 @@ loop-t-preserved c =
     let l = c.loop-t in
     let a = c.args in
     let r = c.slice-r in
-    let v = c.in-Fine.is in
+    let v = c.in-Ok.is in
     let x : State = (l.place, l.most, l.cells) in
     let goes = turned_goes {turn = turn_by a.s.now a.c a.damaged l.t x} r.ensures v in
     let below : l.t < slices a.c.shape = omega (arith, c.loop-t-test.true, c.slice_count-count.ensures.0) in (

@@ -1,5 +1,5 @@
 -- `stream` meets its contract. Assumes nothing.
-use Prim.Native.Nat.{◌≤◌, ◌-◌}
+use Prim.Native.Nat.{◌≤◌}
 use mathlib.Core.Path.{◌≡◌}
 use lib.ListN.{length}
 use Rattle.loops.proofs.Laws.{Going}
@@ -14,6 +14,3 @@ invariant-loop-t l =
     Going (turn_by l.s l.c l.damaged) (ended l.s) (slices l.c.shape) (l.initial.place, l.initial.most, l.initial.cells) l.t (l.place, l.most, l.cells)
     × (l.place ≤ length l.s) × (length l.cells ≡ length l.initial.cells)
     × SlicesAdding l.s l.c l.damaged (l.initial.place, l.initial.most, l.initial.cells) l.t (l.place, l.most, l.cells) l.bytes
-
-abbrev pub decreases-loop-t : goal.decreases-loop-t
-decreases-loop-t l = l.count - l.t

@@ -1,4 +1,4 @@
--- `distances::both_numbers` is the second loop of Table E.1: the invariant is `Descending`, the measure the depth. Assumes nothing.
+-- `distances::both_numbers` is the second loop of Table E.1: the invariant is `Descending`. Assumes nothing.
 use Prim.Native.Nat.{◌^◌}
 use Rattle.distances.specs.Steps.{both_turn}
 use Rattle.distances.proofs.Descent.{Descending}
@@ -6,6 +6,3 @@ use Rattle.distances.proofs.both_numbers.Given as goal
 
 abbrev pub invariant-loop-d : goal.invariant-loop-d
 invariant-loop-d l = Descending (both_turn l.s l.fq l.tops l.i) 0 l.ny l.first (2 ^ 52) l.d l.low
-
-abbrev pub decreases-loop-d : goal.decreases-loop-d
-decreases-loop-d l = l.d

@@ -1,6 +1,5 @@
 -- `distances::coloured_numbers` meets its contract. Assumes nothing.
 use mathlib.Core.List.{[], ◌∷◌}
-use native.Mathlib.Omega.{arith}
 use borrow.Author.Rules.{rules}
 use borrow.Author.Tests.{eq-eqb, ne_eqb}
 use lib.ListN.{get_or}
@@ -8,11 +7,6 @@ use Rattle.whole.specs.Cells.{listed}
 use Rattle.whole.proofs.Lists.{listed_self}
 use Rattle.distances.specs.Rule.{coloured_number}
 use Rattle.distances.proofs.coloured_numbers.Goals as goal
-
-pub numbers_rct-r-requires : goal.numbers_rct-r-requires
-numbers_rct-r-requires c =
-    let p = c.requires in
-    (omega (arith, p.below 0), omega (arith, p.below 1), omega (arith, p.below 2))
 
 pub returns-then-cpih-eq1 : goal.returns-then-cpih-eq1
 unfolding listed coloured_number

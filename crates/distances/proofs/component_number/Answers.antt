@@ -2,26 +2,13 @@
 use mathlib.Core.Path.{◌≡◌, ap, ◌∙◌}
 use Prim.Native.Nat.{ℕ, ◌-◌, min}
 use native.Mathlib.Omega.{arith}
-use borrow.Author.Tests.{lt-ltb, le-ltb}
+use borrow.Author.Tests.{lt-ltb}
 use Rattle.wavelet.specs.Transform.{LL, down, table_E1}
 use Rattle.wavelet.specs.Distance.{component_number}
 use Rattle.layout.specs.Bands.{N'y}
 use Rattle.distances.specs.Rule.{number_of, component_number_of}
 use Rattle.distances.specs.Steps.{across_turn, both_turn}
 use Rattle.distances.proofs.component_number.Goals as goal
-
-pub returns-then-s-i : goal.returns-then-s-i
-returns-then-s-i c =
-    let a = c.args in
-    rw (le-ltb a.i a.s.nc c.if-s-i.true)
-
-pub across_numbers-requires : goal.across_numbers-requires
-across_numbers-requires c =
-    (c.requires, omega arith, omega (arith, ap (λ r. r.ny) c.component_of-c.ensures.is, c.requires.built.no_more))
-
-pub both_numbers-requires : goal.both_numbers-requires
-both_numbers-requires c =
-    (c.requires, omega arith, omega (arith, ap (λ r. r.ny) c.component_of-c.ensures.is), c.across_numbers.ensures.1)
 
 pub returns : goal.returns
 unfolding component_number_of component_number table_E1

@@ -1,6 +1,5 @@
 -- `distances::distances` meets its contract: the loop fills the array with the distances. Assumes nothing.
 use mathlib.Core.Bool.{cond}
-use Prim.Native.Nat.{◌-◌, ◌≤◌}
 use lib.Dec.{ltb}
 use lib.ListN.{get_or}
 use Rattle.whole.proofs.Lists.{Filled}
@@ -8,7 +7,4 @@ use Rattle.output.specs.Linear.{distance}
 use Rattle.distances.proofs.distances.Given as goal
 
 abbrev pub invariant-loop-i : goal.invariant-loop-i
-invariant-loop-i l = (l.i ≤ 4) × Filled 4 l.i (λ j. cond (ltb j l.s.nc) (distance l.bw (get_or l.depth j 0) (get_or l.e j 0)) 0) l.r
-
-abbrev pub decreases-loop-i : goal.decreases-loop-i
-decreases-loop-i l = 4 - l.i
+invariant-loop-i l = Filled 4 l.i (λ j. cond (ltb j l.s.nc) (distance l.bw (get_or l.depth j 0) (get_or l.e j 0)) 0) l.d-items

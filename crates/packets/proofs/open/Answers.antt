@@ -25,7 +25,7 @@ returns c =
     head_table a.s.now a.c a.p a.slot a.at header parts a.raws c.bytes-bytes.ensures
     c.bound_flag-least.ensures c.bound_flag-most.ensures
     (flags_table a.s.now a.c a.p a.slot a.at c.requires.0.slotted c.requires.2 a.raws)
-    c.less-left.ensures c.less-rest.ensures c.first-v.ensures in
+    c.saturating_sub-left.ensures c.saturating_sub-rest.ensures c.first-v.ensures in
     record {
       verdict = verdict;
       dr = λ i. (header i).dr;

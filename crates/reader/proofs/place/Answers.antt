@@ -13,27 +13,27 @@ fill-requires c =
     let pre = c.requires in
     (lent pre.opened set pre.enough, rw set.is pre.walked)
 
-pub numbers-requires : goal.numbers-requires
-numbers-requires c =
+pub values-requires : goal.values-requires
+values-requires c =
     let pre = c.requires in
     let filled = rw c.setting_of-c.ensures.is at c.fill.ensures in
-    rw c.shape_of-s.ensures (filled_ready pre.opened filled pre.enough, filled_numbers pre.opened filled, colours pre.opened.accepted.ranges)
+    rw c.shape_of-s.ensures (filled_ready pre.opened filled pre.enough, λ _. filled_numbers pre.opened filled, colours pre.opened.accepted.ranges)
 
-pub place_distances-requires : goal.place_distances-requires
-place_distances-requires c =
+pub outputs-requires : goal.outputs-requires
+outputs-requires c =
     let pre = c.requires in
     let ranges = pre.opened.accepted.ranges in
     let filled = rw c.setting_of-c.ensures.is at c.fill.ensures in
-    let made = rw c.shape_of-s.ensures at c.numbers.ensures in
+    let made = rw c.shape_of-s.ensures at c.values.ensures in
     rw c.shape_of-s.ensures
-    (numbered_ready (filled_ready pre.opened filled pre.enough) (colours ranges) made, numbers_held made, depths ranges, pre.room)
+    (numbered_ready (filled_ready pre.opened filled pre.enough) (colours ranges) made, λ _. numbers_held made, depths ranges, pre.room)
 
 pub returns : goal.returns
 returns c =
     let pre = c.requires in
     let filled = rw c.setting_of-c.ensures.is at c.fill.ensures in
-    let made = rw c.shape_of-s.ensures at c.numbers.ensures in
+    let made = rw c.shape_of-s.ensures at c.values.ensures in
     record {
-      distances = placed_made pre.opened filled made (rw c.shape_of-s.ensures at c.place_distances.ensures);
+      distances = placed_made pre.opened filled made (rw c.shape_of-s.ensures at c.outputs.ensures);
       same = made.same ∙ filled.same;
     }

@@ -8,7 +8,7 @@ use Rattle.reader.proofs.plane_row.Goals as goal
 pub returns-then-asked : goal.returns-then-asked
 returns-then-asked c =
     let a = c.args in
-    rw c.if-asked.true (c.one.ensures ∙ (λ i. first (check Lent a.h.slice a.plane a.cells (c.requires i) ample ∷ [])))
+    rw c.if-asked.true (c.first.ensures ∙ (λ i. first (check Lent a.h.slice a.plane a.cells (c.requires i) ample ∷ [])))
 
 pub returns : goal.returns
 returns c = rw c.if-asked.false refl

@@ -1,17 +1,18 @@
 -- `reader::show` meets its contract. Assumes nothing.
 use native.Mathlib.Omega.{arith}
+use Rattle.whole.proofs.TwoKinds.{kinds_differ}
 use Rattle.reader.proofs.Openings.{fq_few, depths, colours}
 use Rattle.reader.proofs.Shown.{values_ready, shows}
 use Rattle.reader.proofs.show.Goals as goal
 
 pub values-requires : goal.values-requires
 values-requires c =
-    rw c.shape_of-s.ensures (c.requires.ready, colours c.requires.ranges)
+    rw c.shape_of-s.ensures (c.requires.ready, λ n. absurd (kinds_differ n), colours c.requires.ranges)
 
-pub samples-requires : goal.samples-requires
-samples-requires c =
+pub outputs-requires : goal.outputs-requires
+outputs-requires c =
     let pre = c.requires in
-    rw c.shape_of-s.ensures (values_ready pre.ready (colours pre.ranges) (rw c.shape_of-s.ensures at c.values.ensures), depths pre.ranges, pre.room)
+    rw c.shape_of-s.ensures (values_ready pre.ready (colours pre.ranges) (rw c.shape_of-s.ensures at c.values.ensures), λ n. absurd (kinds_differ n), depths pre.ranges, pre.room)
 
 pub distances-d-requires : goal.distances-d-requires
 distances-d-requires c =
@@ -21,4 +22,4 @@ distances-d-requires c =
 pub returns : goal.returns
 returns c =
     let e = c.shape_of-s.ensures in
-    shows c.requires.ready.built (rw e at c.values.ensures) (rw e at c.samples.ensures) (rw e at c.distances-d.ensures) c.shown.ensures
+    shows c.requires.ready.built (rw e at c.values.ensures) (rw e at c.outputs.ensures) (rw e at c.distances-d.ensures) c.shown.ensures

@@ -2,8 +2,8 @@
 use Rattle.reader.proofs.Shown.{shows_none}
 use Rattle.reader.proofs.show_by.Goals as goal
 
-pub returns-in-Fine : goal.returns-in-Fine
-returns-in-Fine c = rw c.in-Fine.is c.show.ensures
+pub returns-in-Ok : goal.returns-in-Ok
+returns-in-Ok c = rw c.in-Ok.is c.show.ensures
 
-pub returns-in-Refused : goal.returns-in-Refused
-returns-in-Refused c = shows_none c.in-Refused.is c.refused.ensures
+pub returns-in-Err : goal.returns-in-Err
+returns-in-Err c = shows_none c.in-Err.is c.refused.ensures

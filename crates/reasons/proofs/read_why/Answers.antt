@@ -2,7 +2,7 @@
 use mathlib.Core.Path.{◌∙◌}
 use mathlib.Core.List.{[], ◌∷◌}
 use Rattle.whole.specs.Cells.{listed}
-use Rattle.rows.specs.declared.Verdict.TheVariants.{Fine}
+use Rattle.rows.specs.Rows.{Fine}
 use Rattle.reasons.specs.Steps.{coarse_of}
 use Rattle.reasons.proofs.Telling.{searched}
 use Rattle.reasons.proofs.read_why.Goals as goal

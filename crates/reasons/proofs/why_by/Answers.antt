@@ -5,14 +5,14 @@ use Rattle.reasons.proofs.Telling.{refused_is}
 use Rattle.reasons.proofs.why_by.Goals as goal
 
 pub read_why-requires : goal.read_why-requires
-read_why-requires c = c.requires c.in-Fine.is
+read_why-requires c = c.requires c.in-Ok.is
 
-pub returns-in-Fine : goal.returns-in-Fine
-returns-in-Fine c =
+pub returns-in-Ok : goal.returns-in-Ok
+returns-in-Ok c =
     let a = c.args in
-    c.read_why.ensures ∙ (λ i. why_by (sym c.in-Fine.is i) a.stream.now a.h)
+    c.read_why.ensures ∙ (λ i. why_by (sym c.in-Ok.is i) a.stream.now a.h)
 
-pub returns-in-Refused : goal.returns-in-Refused
-returns-in-Refused c =
+pub returns-in-Err : goal.returns-in-Err
+returns-in-Err c =
     let a = c.args in
-    c.refused_why.ensures ∙ refused_is a.stream.now a.h c.in-Refused.is
+    c.refused_why.ensures ∙ refused_is a.stream.now a.h c.in-Err.is

@@ -1,15 +1,7 @@
 -- `show::put_bytes`: one text after another. Assumes nothing.
 use Rattle.show.specs.Text.{bytes_text}
-use Rattle.show.proofs.Puts.{put_both, put_length}
+use Rattle.show.proofs.Puts.{put_both}
 use Rattle.show.proofs.put_bytes.Goals as goal
-
-pub shape_of-out : goal.shape_of-out
-unfolding bytes_text
-shape_of-out c =
-    let from_signs = put_both c.put_field-signs.ensures (put_both c.put_field-filler.ensures c.put_line.ensures) in
-    let from_counts = put_both c.put_field-counts.ensures (put_both c.put_field-data.ensures from_signs) in
-    let from_packets = put_both c.put_field-packets.ensures (put_both c.put_field-significance.ensures from_counts) in
-    put_length (put_both c.put_field-markers.ensures (put_both c.put_field-precincts.ensures from_packets))
 
 pub returns : goal.returns
 unfolding bytes_text

@@ -36,17 +36,17 @@ and-bytes-requires c =
     let l = c.loop-n in
     let a = c.args in
     let r = c.precinct_turn-r in
-    let v = c.in-Fine.is in
+    let v = c.in-Ok.is in
     let goes = turned_goes r.ensures v in
     let tiles = precinct_turn_tiles a.s.now a.c a.t l.n (l.place, l.most, l.cells) _ goes in
     omega (arith, adds_up l.invariant.3 goes tiles r.ensures.bytes v, r.ensures.inside v, c.requires.0.short)
 
-pub returns-in-Refused : goal.returns-in-Refused
+pub returns-in-Err : goal.returns-in-Err
 unfolding precincts
-returns-in-Refused c =
+returns-in-Err c =
     let l = c.loop-n in
     let a = c.args in
-    let v = c.in-Refused.is in
+    let v = c.in-Err.is in
     let r = c.precinct_turn-r in
     stops_here (precincts_pieces a.s.now a.c a.t (a.at, a.tops, a.cells.now))
     (settled (stops l.invariant.0 (omega (arith, c.loop-n-test.true, c.precincts_in_slice-count.ensures)) (turned_stops r.ensures v)) v) v c.stopped.ensures
@@ -56,7 +56,7 @@ loop-n-preserved c =
     let l = c.loop-n in
     let a = c.args in
     let r = c.precinct_turn-r in
-    let v = c.in-Fine.is in
+    let v = c.in-Ok.is in
     let goes = turned_goes r.ensures v in
     let tiles = precinct_turn_tiles a.s.now a.c a.t l.n (l.place, l.most, l.cells) _ goes in
     let below : l.n < Np a.c.shape a.t = omega (arith, c.loop-n-test.true, c.precincts_in_slice-count.ensures) in (

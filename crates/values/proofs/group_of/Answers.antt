@@ -1,37 +1,19 @@
 -- `values::group_of` meets its contract. Assumes nothing.
+use Prim.Native.Nat.{◌+◌, ◌-◌, ◌*◌, ◌^◌, ◌<◌, min}
+use mathlib.Core.Path.{◌≡◌}
 use native.Mathlib.Omega.{arith}
+use lib.IntN.{pos}
+use lib.ListN.{get_or}
+use lib.Signed.{mag}
 use Rattle.whole.proofs.Machine.{back64}
 use Rattle.values.specs.Line.{M}
 use Rattle.values.specs.Steps.{group_of}
 use Rattle.values.proofs.group_of.Goals as goal
 
-pub overflow_mul-x : goal.overflow_mul-x
-overflow_mul-x c = omega arith
-
-pub overflow_mul-first : goal.overflow_mul-first
-overflow_mul-first c = omega arith
-
-pub overflow_add-first : goal.overflow_add-first
-overflow_add-first c = omega arith
-
-pub overflow_add-held : goal.overflow_add-held
-overflow_add-held c = omega arith
-
-pub overflow_sub-line : goal.overflow_sub-line
-overflow_sub-line c = omega arith
-
-pub smaller-requires : goal.smaller-requires
-smaller-requires c = tt
-
-pub offset_bounds-cells-held : goal.offset_bounds-cells-held
-offset_bounds-cells-held c = omega arith
-
-pub bounds-cells-held : goal.bounds-cells-held
-bounds-cells-held c = omega arith
-
-pub count_in-requires : goal.count_in-requires
-count_in-requires c = tt
-
 pub returns : goal.returns
 unfolding group_of M
-returns c = rw (c.smaller.ensures, c.count_in.ensures.value, back64 _ c.count_in-arg-1.given)
+returns c =
+    let l = c.args.line in
+    let few : c.min.result ≡ min 4 (l.width - 4 * c.args.g) = omega arith in
+    let fits : mag (get_or c.args.cells.now (l.first + 4 * c.args.g * l.stride + l.area) (pos 0)) < 2 ^ 63 = omega arith in
+    rw (few, c.held.ensures, back64 _ fits)

@@ -9,30 +9,15 @@ some : (c : In-loop-g) → 4 * c.loop-g.g < c.args.line.width
 some c = omega (arith, c.loop-g-test.true)
 
 pub loop-g-init : goal.loop-g-init
-loop-g-init c = (omega arith, reached_first _ _ _ _ _ _)
-
-pub group_of-group-requires : goal.group_of-group-requires
-group_of-group-requires c =
-    record {
-      some = some (goal.at.group_of-group-requires c).In-loop-g;
-      inside = omega (arith, c.requires.1.inside (4 * c.loop-g.g) (some (goal.at.group_of-group-requires c).In-loop-g), c.loop-g.invariant.1.written.long);
-    }
+loop-g-init c = reached_first _ _ _ _ _ _
 
 pub any_group-next-requires : goal.any_group-next-requires
 any_group-next-requires c =
-    (c.requires.0, rw c.group_of-group.ensures (fits_group _ _ _ _ _ _ _ (some (goal.at.any_group-next-requires c).In-loop-g) c.requires.1 c.loop-g.invariant.1))
-
-pub loop-g-smaller : goal.loop-g-smaller
-loop-g-smaller c = omega arith
+    (c.requires.0, rw c.group_of-group.ensures (fits_group _ _ _ _ _ _ _ (some (goal.at.any_group-next-requires c).In-loop-g) c.requires.1 c.loop-g.invariant))
 
 pub loop-g-preserved : goal.loop-g-preserved
-loop-g-preserved c = (
-  omega (arith, c.loop-g-test.true),
-  reached_next _ _ _ _ _ _ _ (some (goal.at.loop-g-preserved c).In-loop-g) c.requires.1 c.loop-g.invariant.1 (rw c.group_of-group.ensures at c.any_group-next.ensures),
-)
-
-pub shape_of-cells : goal.shape_of-cells
-shape_of-cells c = c.loop-g.invariant.1.written.long
+loop-g-preserved c =
+    reached_next _ _ _ _ _ _ _ (some (goal.at.loop-g-preserved c).In-loop-g) c.requires.1 c.loop-g.invariant (rw c.group_of-group.ensures at c.any_group-next.ensures)
 
 pub returns : goal.returns
-returns c = reached_last _ _ _ _ _ _ (omega (arith, c.loop-g-test.false, c.loop-g.invariant.0)) c.loop-g.invariant.1
+returns c = reached_last _ _ _ _ _ _ (omega (arith, c.loop-g-test.false)) c.loop-g.invariant

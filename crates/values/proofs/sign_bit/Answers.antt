@@ -1,10 +1,9 @@
--- `values::sign_bit` meets its contract: the test picks the case. Assumes nothing.
-use native.Mathlib.Omega.{arith}
-use borrow.Author.Tests.{eq-eqb, ne_eqb}
+-- `values::sign_bit` meets its contract. Assumes nothing.
+use lib.Dec.{eqb}
+use Rattle.values.proofs.Planes.{bit_is}
 use Rattle.values.proofs.sign_bit.Goals as goal
 
-pub returns-then-v-eq0 : goal.returns-then-v-eq0
-returns-then-v-eq0 c = record { value = rw (eq-eqb _ _ c.if-v-eq0.true); most = omega arith }
-
-pub returns-else-v-eq0 : goal.returns-else-v-eq0
-returns-else-v-eq0 c = record { value = rw (ne_eqb _ _ c.if-v-eq0.false); most = omega arith }
+pub returns : goal.returns
+returns c =
+    let b = bit_is (eqb c.args.v 0) c.from.ensures in
+    record { value = b.0; most = b.1 }

@@ -1,20 +1,7 @@
 -- `wavelet::both_level` leaves the grid of depth d filtered, its rows and then its columns. Assumes nothing.
-use native.Mathlib.Omega.{arith}
 use Rattle.wavelet.specs.Kinds.{steps_of}
 use Rattle.wavelet.proofs.Passes.{level_grid, level_cells, level_made, row_shift, column_shift}
 use Rattle.wavelet.proofs.both_level.Goals as goal
-
-pub low_size-m-requires : goal.low_size-m-requires
-low_size-m-requires c = (c.requires.pass.sheet.narrow, c.requires.pass.depth)
-
-pub low_size-n-requires : goal.low_size-n-requires
-low_size-n-requires c = (c.requires.pass.sheet.low, c.requires.pass.depth)
-
-pub overflow_shl-d : goal.overflow_shl-d
-overflow_shl-d c = omega (arith, c.requires.pass.depth)
-
-pub overflow_shl-w : goal.overflow_shl-w
-overflow_shl-w c = omega (arith, c.requires.pass.depth)
 
 pub level-requires : goal.level-requires
 level-requires c =

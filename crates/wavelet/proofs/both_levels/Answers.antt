@@ -15,17 +15,10 @@ both_level-requires c =
     let i = c.loop-d.invariant _ _ (standing c.args.w c.args.h c.args.ny c.args.cells.now) in
     record { pass = both_pass c.requires.component i.stands.same c.loop-d-test.true (omega (arith, i.most)); samples_within = samples_le i.within (omega (arith, descent_bound i (omega arith))) }
 
-pub loop-d-smaller : goal.loop-d-smaller
-loop-d-smaller c = omega arith
-
 pub loop-d-preserved : goal.loop-d-preserved
 loop-d-preserved c =
     λ l₀ low g.
     both_goes_on c.requires.component (tame c.args.kind) (c.loop-d.invariant l₀ low g) c.loop-d-test.true c.both_level.ensures
-
-pub shape_of-cells : goal.shape_of-cells
-shape_of-cells c =
-    (c.loop-d.invariant _ _ (standing c.args.w c.args.h c.args.ny c.args.cells.now)).stands.same
 
 pub returns : goal.returns
 returns c = record { made = λ {l₀} {low} g. descent_ends (c.loop-d.invariant l₀ low g) c.loop-d-test.false }

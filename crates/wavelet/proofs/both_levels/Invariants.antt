@@ -12,6 +12,3 @@ use Rattle.wavelet.proofs.both_levels.Given as goal
 abbrev pub invariant-loop-d : goal.invariant-loop-d
 invariant-loop-d l =
     (l₀ : List ℤ) (low : Band ℤ) → Gridded l.w l.h (2 ^ l.ny) (2 ^ l.ny) low l₀ l.initial.cells → BothDescending (steps_of l.kind) l.w l.h l.ny low l₀ l.cells l.d
-
-abbrev pub decreases-loop-d : goal.decreases-loop-d
-decreases-loop-d l = l.d

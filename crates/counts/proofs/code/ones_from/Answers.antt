@@ -21,7 +21,7 @@ pub overflow_add-n : goal.overflow_add-n
 overflow_add-n c = omega (arith, few (goal.at.overflow_add-n c).After-ones_in_byte-k)
 
 pub returns-then-k-w : goal.returns-then-k-w
-returns-then-k-w c = c.smaller.ensures ∙ sym (ones_ended _ _ _ _ _ c.loop-n.invariant.1 c.ones_in_byte-k.ensures _ c.if-k-w.true)
+returns-then-k-w c = c.min.ensures ∙ sym (ones_ended _ _ _ _ _ c.loop-n.invariant.1 c.ones_in_byte-k.ensures _ c.if-k-w.true)
 
 pub loop-n-preserved : goal.loop-n-preserved
 loop-n-preserved c =

@@ -1,6 +1,7 @@
 -- `counts::unpack::read_vertical` meets its contract: the tests pick the case of Table C.15. Assumes nothing.
 use Prim.Native.Nat.{max}
-use mathlib.Core.Path.{sym, ap, ◌∙◌}
+use mathlib.Core.Path.{◌≡◌, sym, ap, ◌∙◌}
+use native.Mathlib.Omega.{arith}
 use native.Mathlib.Nat.{add-zero}
 use lib.IntN.{ℤ}
 use Rattle.counts.specs.Groups.{counted}
@@ -15,8 +16,10 @@ returns-then-c c =
 
 pub returns-else-c : goal.returns-else-c
 returns-else-c c =
-    rw (c.if-insignificant.true, c.if-c.false, add-zero, ← c.top-mtop.ensures) c.in_range-else-c.ensures
+    let top : c.max-mtop.result ≡ max c.args.m_above (max c.args.c.t c.args.t_above) = omega arith in
+    rw (c.if-insignificant.true, c.if-c.false, add-zero, ← top) c.in_range-else-c.ensures
 
 pub returns-else-insignificant : goal.returns-else-insignificant
 returns-else-insignificant c =
-    rw (c.if-insignificant.false, ← c.top-mtop.ensures) c.read_code.ensures
+    let top : c.max-mtop.result ≡ max c.args.m_above (max c.args.c.t c.args.t_above) = omega arith in
+    rw (c.if-insignificant.false, ← top) c.read_code.ensures

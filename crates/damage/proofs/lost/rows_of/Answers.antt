@@ -3,10 +3,6 @@ use native.Mathlib.Omega.{arith}
 use Rattle.damage.proofs.LostRows.{tall_small, top_small, rows_are}
 use Rattle.damage.proofs.lost.rows_of.Goals as goal
 
-pub overflow_mul-tall : goal.overflow_mul-tall
-overflow_mul-tall c =
-    omega (arith, tall_small c.args.s c.requires.0 c.args.t c.requires.2 c.power.result c.component_of-c.result.sy c.power.ensures.few)
-
 pub overflow_mul-top : goal.overflow_mul-top
 overflow_mul-top c =
     omega (arith, top_small c.args.s c.requires.0 c.args.t c.requires.2 c.power.result c.component_of-c.result.sy c.power.ensures.few)
@@ -19,4 +15,4 @@ overflow_add-top c =
 
 pub returns : goal.returns
 returns c =
-    rows_are c.args.s c.requires.0 c.args.i c.args.t c.requires.1 c.component_of-c.ensures.is c.power.ensures.is c.smaller.ensures c.smaller-2.ensures
+    rows_are c.args.s c.requires.0 c.args.i c.args.t c.requires.1 c.component_of-c.ensures.is c.power.ensures.is c.min.ensures c.min-2.ensures

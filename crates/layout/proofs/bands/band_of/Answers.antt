@@ -5,26 +5,20 @@ use lib.Dec.{eqb}
 use Rattle.layout.specs.declared.bands.Band.{Band}
 use Rattle.layout.specs.Bands.{kind, dx, dy, depth, exists}
 use Rattle.layout.specs.Sizes.{band_of, SmallFilter}
-use Rattle.layout.proofs.Filters.{filter_small, down_most}
 use Rattle.layout.proofs.Shapes.{own_small, depth_own}
 use Rattle.layout.proofs.bands.band_of.Goals as goal
-
-pub first_line_divides-e-requires : goal.first_line_divides-e-requires
-first_line_divides-e-requires c =
-    let f : SmallFilter c.filter_type-f.result = rw c.filter_type-f.ensures (filter_small c.args.s.nlx c.args.s.nly c.args.beta c.requires.0.no_more c.requires.0.levels c.requires.0.down_levels) in
-    (c.requires.0.down_levels, rw c.filter_type-f.ensures (down_most c.args.s.nlx c.args.s.nly c.args.beta), f.ty)
 
 pub returns : goal.returns
 unfolding kind dx dy depth exists
 returns c =
-    let f = c.filter_type-f.ensures in
-    let p = c.component_of-c.ensures in
+    let f = c.filter_type-filter.ensures in
+    let p = c.component_of-part.ensures in
     let s = c.args.s in
     let is : _ ≡ band_of s c.args.beta c.args.i =
     λ i.
     record {
-      exists = (c.first_line_divides-e.ensures ∙ (λ j. eqb (2 ^ (s.nly - (f j).dy) * (f j).ty % (p.is j).sy) 0)) i;
-      filter = record { tx = (f i).tx; ty = (f i).ty; dx = (f i).dx; dy = (c.smaller.ensures ∙ (λ j. min (f j).dy (p.is j).ny)) i };
+      exists = (c.first_line_divides-exists.ensures ∙ (λ j. eqb (2 ^ (s.nly - (f j).dy) * (f j).ty % (p.is j).sy) 0)) i;
+      filter = record { tx = (f i).tx; ty = (f i).ty; dx = (f i).dx; dy = (c.min-dy.ensures ∙ (λ j. min (f j).dy (p.is j).ny)) i };
       part = p.is i;
     }
     in

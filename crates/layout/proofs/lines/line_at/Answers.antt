@@ -1,31 +1,17 @@
 -- `layout::lines::line_at` meets its contract. Assumes nothing.
-use mathlib.Core.Path.{sym, subst, ◌∙◌}
-use Prim.Native.Nat.{◌+◌, ◌-◌, ◌/◌, ◌%◌, ◌^◌, ◌<◌}
+use mathlib.Core.Path.{sym, subst}
+use Prim.Native.Nat.{◌+◌, ◌-◌, ◌/◌, ◌^◌, ◌<◌}
 use native.Mathlib.Nat.{mod-lt}
 use native.Mathlib.Omega.{arith}
 use Rattle.layout.specs.declared.lines.Slot.{Slot}
 use Rattle.layout.specs.Bands.{Nβ, dy}
-use Rattle.layout.specs.Slots.{line, line_at}
+use Rattle.layout.specs.Slots.{line_at}
 use Rattle.layout.proofs.Slots.{slot_fits}
 use Rattle.layout.proofs.Sums.{types_most}
 use Rattle.layout.proofs.lines.line_at.Goals as goal
 
-pub slot_of-slot-requires : goal.slot_of-slot-requires
-slot_of-slot-requires c = (c.requires.0, c.requires.3)
-
-pub nonzero_div-j : goal.nonzero_div-j
-nonzero_div-j c = omega (arith, c.requires.0.some)
-
 pub overflow_add-slot : goal.overflow_add-slot
-overflow_add-slot c =
-    let s = c.args.s in
-    let j = c.args.j in
-    let f = slot_fits s c.requires.0 c.args.k j c.requires.3 c.requires.4 in
-    let below : c.slot_of-slot.result.first + j / s.nc < Nβ s = subst (λ (t : Slot). t.first + j / s.nc < Nβ s) (sym c.slot_of-slot.ensures) f.0 in
-    record { fits = omega (arith, below, types_most s c.requires.0) }
-
-pub nonzero_rem-j : goal.nonzero_rem-j
-nonzero_rem-j c = omega (arith, c.requires.0.some)
+overflow_add-slot c = grind (arith, c.slot_of-slot.ensures, slot_fits c.args.s c.requires.0 c.args.k c.args.j c.requires.3 c.requires.4, types_most c.args.s c.requires.0)
 
 pub line_of-requires : goal.line_of-requires
 line_of-requires c =
@@ -44,6 +30,4 @@ line_of-requires c =
 
 pub returns : goal.returns
 unfolding line_at
-returns c =
-    let t = c.slot_of-slot.ensures in
-    c.line_of.ensures ∙ (λ i. line c.args.s c.args.row c.args.column ((t i).first + c.args.j / c.args.s.nc) (c.args.j % c.args.s.nc) (t i).line)
+returns c = grind (arith, c.slot_of-slot.ensures)

@@ -1,10 +1,9 @@
 -- `layout::lines::line_of` meets its contract. Assumes nothing.
 use mathlib.Core.Path.{◌≡◌, ap, ◌∙◌}
 use mathlib.Core.Bool.{◌&&◌}
-use Prim.Native.Nat.{◌+◌, ◌*◌, ◌/◌, ◌%◌, ◌^◌, ◌≤◌}
-use native.Mathlib.Nat.{mul-le-mul}
+use Prim.Native.Nat.{◌+◌, ◌*◌, ◌/◌, ◌%◌, ◌^◌}
 use native.Mathlib.Omega.{arith}
-use lib.Dec.{eqb, ltb}
+use lib.Dec.{eqb, ltb, lit<}
 use Rattle.layout.specs.declared.bands.Band.{Band}
 use Rattle.layout.specs.declared.lines.Reach.{Reach}
 use Rattle.layout.specs.declared.lines.Span.{Span}
@@ -17,71 +16,12 @@ use Rattle.layout.specs.Slots.{line}
 use Rattle.layout.specs.Sizes.{band_of, column_of, reach_of, span_of, inner_of}
 use Rattle.layout.proofs.Columns.{Npy_most}
 use Rattle.layout.proofs.Reaches.{included_is, Hb_letter, Wpb_size}
-use Rattle.layout.proofs.Sums.{types_most}
-use Rattle.layout.proofs.lines.line_of.Goals.{After-struct_known-1}
+use Rattle.layout.proofs.Sizes.{div_ceil_is}
 use Rattle.layout.proofs.lines.line_of.Goals as goal
-
--- Nc · β, with β below 10
-band_most : (c : After-struct_known-1) → c.args.s.nc * c.args.beta ≤ 40
-band_most c =
-    mul-le-mul {n₁ = c.args.s.nc} {m₁ = c.args.beta} {n₂ = 4} {m₂ = 10} c.requires.built.0.few (omega (arith, types_most c.args.s c.requires.built.0, c.requires.beta_bound.0))
-
-pub band_of-b-requires : goal.band_of-b-requires
-band_of-b-requires c = (c.requires.built.0, c.requires.beta_bound.0, c.requires.beta_bound.1)
 
 pub reach_of-reach-requires : goal.reach_of-reach-requires
 reach_of-reach-requires c =
     (c.band_of-b.ensures.small, omega (arith, c.requires.built.1, Npy_most c.args.s c.requires.built.0), c.requires.beta_bound.2)
-
-pub column_of-requires : goal.column_of-requires
-column_of-requires c = (c.requires.built.0, c.requires.built.2)
-
-pub span_of-span-requires : goal.span_of-span-requires
-span_of-span-requires c = (c.band_of-b.ensures.small, c.column_of.ensures.small, c.column_of.ensures.narrow)
-
-pub cell_of-inner-requires : goal.cell_of-inner-requires
-cell_of-inner-requires c = (c.band_of-b.ensures.small, c.span_of-span.ensures.small, c.reach_of-reach.ensures.small)
-
-pub samples_before-before-requires : goal.samples_before-before-requires
-samples_before-before-requires c =
-    (c.requires.built.0, omega (arith, c.requires.beta_bound.1))
-
-pub overflow_mul-result : goal.overflow_mul-result
-overflow_mul-result c = record { fits = omega (arith, band_most (goal.at.overflow_mul-result c).After-struct_known-1) }
-
-pub overflow_add-result : goal.overflow_add-result
-overflow_add-result c =
-    record { fits = omega (arith, band_most (goal.at.overflow_add-result c).After-struct_known-1, c.requires.beta_bound.1, c.requires.built.0.few) }
-
-pub overflow_mul-result-2 : goal.overflow_mul-result-2
-overflow_mul-result-2 c = record { fits = omega (arith, c.samples_before-before.ensures.1) }
-
-pub overflow_add-result-2 : goal.overflow_add-result-2
-overflow_add-result-2 c = record { fits = omega (arith, c.samples_before-before.ensures.1, c.cell_of-inner.ensures.1) }
-
-pub power-requires : goal.power-requires
-power-requires c = c.band_of-b.ensures.small.filter.dx
-
-pub ceil_div-requires : goal.ceil_div-requires
-ceil_div-requires c = omega (arith, c.span_of-span.ensures.narrow)
-
-pub ceil_div-requires-2 : goal.ceil_div-requires-2
-ceil_div-requires-2 c = omega (arith, c.span_of-span.ensures.narrow)
-
-pub product-requires : goal.product-requires
-product-requires c =
-    let p = c.band_of-b.ensures.small.part in
-    omega (arith, p.narrow, p.low)
-
-pub power-requires-2 : goal.power-requires-2
-power-requires-2 c =
-    let f = c.band_of-b.ensures.small.filter in
-    omega (arith, f.dy)
-
-pub product-requires-2 : goal.product-requires-2
-product-requires-2 c =
-    let p = c.band_of-b.ensures.small.part in
-    omega (arith, c.power-2.ensures.few, p.narrow)
 
 pub returns : goal.returns
 unfolding line area inner first_x
@@ -107,8 +47,8 @@ returns c =
       cell = 2 * c.samples_before-before.ensures.0 j + (c.cell_of-inner.ensures.0 ∙ (λ k. inner_of (b k) (w k).x (r k).y)) j;
       stride = (c.power.ensures.is ∙ (λ k. 2 ^ (b k).filter.dx)) j;
       width = width j;
-      groups = (c.ceil_div.ensures ∙ ap Ncg width) j;
-      marks = (c.ceil_div-2.ensures ∙ ap Ns width) j;
+      groups = (c.div_ceil.ensures ∙ div_ceil_is c.span_of-span.result.width 4 (lit< tt) ∙ ap Ncg width) j;
+      marks = (c.div_ceil-2.ensures ∙ div_ceil_is c.span_of-span.result.width 32 (lit< tt) ∙ ap Ns width) j;
       y = (r j).y;
       area = (c.product.ensures.0 ∙ (λ k. (b k).part.w * (b k).part.h)) j;
       up = (c.product-2.ensures.0 ∙ (λ k. (c.power-2.ensures.is ∙ (λ m. 2 ^ (b m).filter.dy)) k * (b k).part.w)) j;

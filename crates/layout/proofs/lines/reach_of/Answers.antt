@@ -8,10 +8,6 @@ use lib.Dec.{eqb, ltb}
 use lib.Pow.{pow_mono}
 use Rattle.layout.proofs.lines.reach_of.Goals as goal
 
-pub overflow_add-y : goal.overflow_add-y
-overflow_add-y c =
-    omega (arith, c.product.ensures.1, div-le_self c.args.l c.args.b.part.sy, c.requires.2)
-
 pub returns : goal.returns
 returns c =
     let b = c.args.b in

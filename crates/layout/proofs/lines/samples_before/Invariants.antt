@@ -1,11 +1,7 @@
 -- `layout::lines::samples_before` meets its contract: after k turns n counts the samples of the components below k. Assumes nothing.
 use mathlib.Core.Path.{◌≡◌}
-use Prim.Native.Nat.{◌-◌, ◌≤◌}
 use Rattle.layout.specs.Cells.{samples}
 use Rattle.layout.proofs.lines.samples_before.Given as goal
 
 abbrev pub invariant-loop-k : goal.invariant-loop-k
-invariant-loop-k l = (l.k ≤ l.i) × (l.n ≡ samples l.s l.k)
-
-abbrev pub decreases-loop-k : goal.decreases-loop-k
-decreases-loop-k l = l.i - l.k
+invariant-loop-k l = l.n ≡ samples l.s l.k

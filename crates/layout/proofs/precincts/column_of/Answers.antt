@@ -6,16 +6,8 @@ use native.Mathlib.Nat.{mod-le}
 use native.Mathlib.Omega.{arith}
 use borrow.Author.Tests.{lt-ltb, le-ltb}
 use Rattle.layout.specs.Precincts.{Cs, Npx, Wp}
-use Rattle.layout.proofs.Columns.{Npx_most, column_inside}
+use Rattle.layout.proofs.Columns.{column_inside}
 use Rattle.layout.proofs.precincts.column_of.Goals as goal
-
-pub product-x-requires : goal.product-x-requires
-product-x-requires c =
-    omega (arith, c.requires.1, Npx_most c.args.s c.requires.0, c.column_width-cs.ensures.few)
-
-pub overflow_sub-n : goal.overflow_sub-n
-overflow_sub-n c =
-    omega (arith, c.requires.1, c.precinct_columns-n.ensures.0)
 
 pub returns-then-column-n : goal.returns-then-column-n
 unfolding Wp
@@ -34,16 +26,6 @@ returns-then-column-n c =
       small = omega (arith, x, column_inside s c.requires.0 c.args.column c.requires.1, c.requires.0.narrow);
       narrow = w.few;
     }
-
-pub overflow_sub-result : goal.overflow_sub-result
-overflow_sub-result c = omega (arith, c.requires.0.wide)
-
-pub nonzero_rem-result : goal.nonzero_rem-result
-nonzero_rem-result c = omega (arith, c.column_width-cs.ensures.some)
-
-pub overflow_add-result : goal.overflow_add-result
-overflow_add-result c =
-    omega (arith, mod-le (c.args.s.wf - 1) c.column_width-cs.result, c.requires.0.narrow)
 
 pub returns : goal.returns
 unfolding Wp

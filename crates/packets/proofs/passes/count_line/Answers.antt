@@ -1,11 +1,6 @@
 -- `packets::passes::count_line` meets its contract. Assumes nothing.
-use native.Mathlib.Omega.{arith}
 use Rattle.packets.proofs.LinePasses.{count_ready, count_there, count_absent}
 use Rattle.packets.proofs.passes.count_line.Goals as goal
-
-pub coding_of-coding-requires : goal.coding_of-coding-requires
-coding_of-coding-requires c =
-    (c.requires.0, omega (arith, c.requires.1.at, c.requires.1.end, c.requires.1.short), (c.requires.2 c.if-l.true).band)
 
 pub line_counts-requires : goal.line_counts-requires
 line_counts-requires c =

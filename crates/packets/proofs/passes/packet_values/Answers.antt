@@ -1,33 +1,20 @@
 -- `packets::passes::packet_values` meets its contract. Assumes nothing.
-use mathlib.Core.Bool.{true}
-use mathlib.Core.Path.{◌≡◌, refl, ◌∙◌}
+use mathlib.Core.Path.{refl, ◌∙◌}
 use Prim.Native.Nat.{◌<◌}
 use native.Mathlib.Omega.{arith}
 use Rattle.loops.proofs.Laws.{begins, goes_on, ends}
 use Rattle.layout.specs.Slots.{candidates}
-use Rattle.packets.specs.Steps.{Lies}
 use Rattle.packets.specs.Passes.{packet_values}
-use Rattle.packets.proofs.Lines.{lies_read}
+use Rattle.packets.proofs.Lines.{lies_among}
 use Rattle.packets.proofs.LinePasses.{value_turn_lem, value_few}
-use Rattle.packets.proofs.passes.packet_values.Goals.{After-candidate-l, In-loop-j}
+use Rattle.packets.proofs.passes.packet_values.Goals.{In-loop-j}
 use Rattle.packets.proofs.passes.packet_values.Goals as goal
 
 below : (c : In-loop-j) → c.loop-j.j < candidates c.args.c.shape c.args.slot
 below c = omega (arith, c.loop-j-test.true, c.candidate_count-n.ensures.0)
 
-there : (c : After-candidate-l) →
-    let a = c.args in
-    c.candidate-l.result.present ≡ true → Lies a.c.shape a.p.row c.candidate-l.result
-there c = lies_read c.requires.0 (let below : c.loop-j.j < candidates c.args.c.shape c.args.slot = omega (arith, c.loop-j-test.true, c.candidate_count-n.ensures.0) in below) c.candidate-l.ensures
-
-pub candidate_count-n-requires : goal.candidate_count-n-requires
-candidate_count-n-requires c = (c.requires.0.settled.shape, c.requires.0.which)
-
 pub loop-j-init : goal.loop-j-init
-loop-j-init c = (omega arith, refl, omega arith, omega arith, begins)
-
-pub candidate-l-requires : goal.candidate-l-requires
-candidate-l-requires c = (c.requires.0, below c)
+loop-j-init c = (refl, omega arith, omega arith, begins)
 
 pub value_line-next-requires : goal.value_line-next-requires
 value_line-next-requires c =
@@ -35,24 +22,23 @@ value_line-next-requires c =
     let l = c.loop-j in
     let n = c.candidate_count-n.ensures in (
       pre.0.settled,
-      there (goal.at.value_line-next-requires c).After-candidate-l,
-      omega (arith, pre.1, l.invariant.1),
-      omega (arith, l.invariant.2, l.invariant.0, n.1),
-      omega (arith, l.invariant.3, l.invariant.0, n.1),
+      lies_among c.requires.0 c.candidate_count-n.ensures.0 c.loop-j-test.true c.candidate-l.ensures,
+      omega (arith, pre.1, l.invariant.0),
+      omega (arith, l.invariant.1, n.1),
+      omega (arith, l.invariant.2, n.1),
       c.table-pairs.ensures,
     )
 
 pub loop-j-preserved : goal.loop-j-preserved
 loop-j-preserved c =
     let l = c.loop-j in
-    let few = value_few _ _ _ _ _ _ _ (there (goal.at.loop-j-preserved c).After-candidate-l) c.value_line-next.ensures in (
-      omega (arith, c.loop-j-test.true),
-      c.value_line-next.auto.cells ∙ l.invariant.1,
-      omega (arith, l.invariant.2, few.0),
-      omega (arith, l.invariant.3, few.1),
-      goes_on l.invariant.4 (below (goal.at.loop-j-preserved c).In-loop-j) (value_turn_lem _ _ _ _ _ _ _ _ c.candidate-l.ensures c.value_line-next.ensures),
+    let few = value_few _ _ _ _ _ _ _ (lies_among c.requires.0 c.candidate_count-n.ensures.0 c.loop-j-test.true c.candidate-l.ensures) c.value_line-next.ensures in (
+      c.value_line-next.auto.cells ∙ l.invariant.0,
+      omega (arith, l.invariant.1, few.0),
+      omega (arith, l.invariant.2, few.1),
+      goes_on l.invariant.3 (below (goal.at.loop-j-preserved c).In-loop-j) (value_turn_lem _ _ _ _ _ _ _ _ c.candidate-l.ensures c.value_line-next.ensures),
     )
 
 pub returns : goal.returns
 unfolding packet_values
-returns c = ends c.loop-j.invariant.4 (omega (arith, c.loop-j-test.false, c.candidate_count-n.ensures.0))
+returns c = ends c.loop-j.invariant.3 (omega (arith, c.loop-j-test.false, c.candidate_count-n.ensures.0))

@@ -1,6 +1,5 @@
 -- `reasons::search::coarsest_of` meets its contract. Assumes nothing.
-use native.Mathlib.Omega.{arith}
-use Rattle.reasons.proofs.Searches.{band_inside, coarsest_there, coarsest_none}
+use Rattle.reasons.proofs.Searches.{band_inside, coarsest_there}
 use Rattle.reasons.proofs.search.coarsest_of.Goals as goal
 
 pub lowest_precinct-p-requires : goal.lowest_precinct-p-requires
@@ -10,8 +9,3 @@ lowest_precinct-p-requires c =
 pub returns-then-i-nc : goal.returns-then-i-nc
 returns-then-i-nc c =
     coarsest_there c.requires c.if-i-nc.true c.band_count-n.ensures.0 c.largest_of-top.ensures c.lowest_band-b.ensures c.lowest_precinct-p.ensures
-
-pub returns : goal.returns
-returns c =
-    let a = c.args in
-    coarsest_none a.s.now a.c a.at a.i (omega (arith, c.if-i-nc.false))

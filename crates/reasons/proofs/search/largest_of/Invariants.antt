@@ -1,5 +1,5 @@
 -- `reasons::search::largest_of` meets its contract. Invariant: the largest of the bands before. Assumes nothing.
-use Prim.Native.Nat.{ℕ, ◌%◌, ◌-◌, ◌≤◌}
+use Prim.Native.Nat.{ℕ, ◌%◌}
 use mathlib.Core.Path.{◌≡◌}
 use mathlib.Core.Bool.{cond}
 use mathlib.Core.List.{List}
@@ -12,7 +12,4 @@ abbrev pub own : ℕ → ℕ → List ℕ → ℕ → ℕ
 own nc i tops b = cond (eqb (b % nc) i) (get_or tops b 0) 0
 
 abbrev pub invariant-loop-b : goal.invariant-loop-b
-invariant-loop-b l = (l.b ≤ l.n) × (l.top ≡ largest (own l.nc l.i l.tops) l.b)
-
-abbrev pub decreases-loop-b : goal.decreases-loop-b
-decreases-loop-b l = l.n - l.b
+invariant-loop-b l = l.top ≡ largest (own l.nc l.i l.tops) l.b

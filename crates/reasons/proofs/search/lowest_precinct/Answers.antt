@@ -9,7 +9,7 @@ use Rattle.packets.specs.Precincts.{T}
 use Rattle.slices.specs.Precinct.{holds}
 use Rattle.reasons.specs.Coarsest.{per_slice, all, precinct_of}
 use Rattle.loops.proofs.Lowest.{search_begins, search_next, search_stops, search_ends}
-use Rattle.reasons.proofs.Numbers.{per_slice_some, slice_below, number_below}
+use Rattle.reasons.proofs.Numbers.{slice_below, number_below}
 use Rattle.reasons.proofs.LowestBand.{row_below}
 use Rattle.reasons.proofs.Steps.{stands_first, stands_inside, head_inside, precinct_ends, head_found, precinct_seen}
 use Rattle.reasons.proofs.search.lowest_precinct.Goals.{After-holds_with, After-precinct_in-q, In-loop-p}
@@ -31,7 +31,7 @@ found : (c : After-precinct_in-q) →
 found c =
     let a = c.args in
     let l = c.loop-p in
-    precinct_seen a.s.now a.c a.at c.requires.0 l.p c.slice_size-size.ensures l.invariant.1 c.past_header.ensures c.precinct_in-q.ensures.is
+    precinct_seen a.s.now a.c a.at c.requires.0 l.p c.slice_size-size.ensures l.invariant.0 c.past_header.ensures c.precinct_in-q.ensures.is
 
 -- what its test says
 tested : (c : After-holds_with) →
@@ -40,38 +40,20 @@ tested : (c : After-holds_with) →
 tested c =
     let a = c.args in
     let here : c.precinct_in-q.result ≡ precinct_of a.s.now a.c a.at c.loop-p.p =
-    precinct_seen a.s.now a.c a.at c.requires.0 c.loop-p.p c.slice_size-size.ensures c.loop-p.invariant.1 c.past_header.ensures c.precinct_in-q.ensures.is in
+    precinct_seen a.s.now a.c a.at c.requires.0 c.loop-p.p c.slice_size-size.ensures c.loop-p.invariant.0 c.past_header.ensures c.precinct_in-q.ensures.is in
     c.holds_with.ensures ∙ (λ i. holds a.c (here i) a.b && eqb (T a.c (here i) a.b) a.top)
-
--- ---- what is asked
-
-divides : (c : In-loop-p) → 0 < c.slice_size-size.result
-divides c =
-    omega (arith, size_is c, per_slice_some c.args.c.shape c.requires.0.settled.shape)
 
 -- ---- what is answered
 
-pub precinct_count-count-requires : goal.precinct_count-count-requires
-precinct_count-count-requires c = c.requires.0.settled.shape
-
-pub slice_size-size-requires : goal.slice_size-size-requires
-slice_size-size-requires c = c.requires.0.settled.shape
-
 pub loop-p-init : goal.loop-p-init
 loop-p-init c = let a = c.args in
-    (omega arith, stands_first a.s.now a.c a.at c.requires.0, search_begins)
-
-pub nonzero_rem-n : goal.nonzero_rem-n
-nonzero_rem-n c = omega (arith, divides c)
-
-pub nonzero_div-p : goal.nonzero_div-p
-nonzero_div-p c = omega (arith, divides c)
+    (stands_first a.s.now a.c a.at c.requires.0, search_begins)
 
 pub past_header-requires : goal.past_header-requires
 past_header-requires c =
     let a = c.args in
     let l = c.loop-p in
-    omega (arith, l.invariant.1, stands_inside a.s.now a.c a.at c.requires.0 l.p (below c), c.requires.0.short)
+    omega (arith, l.invariant.0, stands_inside a.s.now a.c a.at c.requires.0 l.p (below c), c.requires.0.short)
 
 pub precinct_in-q-requires : goal.precinct_in-q-requires
 precinct_in-q-requires c =
@@ -79,7 +61,7 @@ precinct_in-q-requires c =
     let w = c.requires.0 in
     let l = c.loop-p in
     let built = w.settled.shape in
-    let head = head_found a.s.now a.c a.at w l.p (size_is (goal.at.precinct_in-q-requires c).In-loop-p) l.invariant.1 c.past_header.ensures in (
+    let head = head_found a.s.now a.c a.at w l.p (size_is (goal.at.precinct_in-q-requires c).In-loop-p) l.invariant.0 c.past_header.ensures in (
       w.settled,
       w.short,
       omega (arith, head, head_inside a.s.now a.c a.at w l.p (below (goal.at.precinct_in-q-requires c).In-loop-p)),
@@ -95,16 +77,15 @@ holds_with-requires c =
 
 pub returns-then-holds_with : goal.returns-then-holds_with
 returns-then-holds_with c =
-    search_stops c.loop-p.invariant.2 (below (goal.at.returns-then-holds_with c).In-loop-p) (sym (tested (goal.at.returns-then-holds_with c).After-holds_with) ∙ c.if-holds_with.true)
+    search_stops c.loop-p.invariant.1 (below (goal.at.returns-then-holds_with c).In-loop-p) (sym (tested (goal.at.returns-then-holds_with c).After-holds_with) ∙ c.if-holds_with.true)
 
 pub loop-p-preserved : goal.loop-p-preserved
 loop-p-preserved c =
     let a = c.args in
     let l = c.loop-p in (
-      omega (arith, c.loop-p-test.true),
       ap (λ (p : Precinct). p.end) (found (goal.at.loop-p-preserved c).After-precinct_in-q) ∙ precinct_ends a.s.now a.c a.at c.requires.0 l.p (below (goal.at.loop-p-preserved c).In-loop-p),
-      search_next l.invariant.2 (sym (tested (goal.at.loop-p-preserved c).After-holds_with) ∙ c.if-holds_with.false),
+      search_next l.invariant.1 (sym (tested (goal.at.loop-p-preserved c).After-holds_with) ∙ c.if-holds_with.false),
     )
 
 pub returns : goal.returns
-returns c = search_ends c.loop-p.invariant.2 (omega (arith, c.loop-p.invariant.0, c.loop-p-test.false, c.precinct_count-count.ensures.0))
+returns c = search_ends c.loop-p.invariant.1 (omega (arith, c.loop-p-test.false, c.precinct_count-count.ensures.0)) c.precinct_count-count.ensures.0

@@ -1,5 +1,5 @@
 -- `reasons::search::lowest_precinct` meets its contract. Invariant: no precinct before has passed, and the walk stands before the next. Assumes nothing.
-use Prim.Native.Nat.{ℕ, ◌-◌, ◌≤◌}
+use Prim.Native.Nat.{ℕ}
 use mathlib.Core.Path.{◌≡◌}
 use mathlib.Core.Bool.{Bool, ◌&&◌}
 use mathlib.Core.List.{List}
@@ -15,7 +15,4 @@ abbrev pub test : List ℕ → Setting → ℕ → ℕ → ℕ → ℕ → Bool
 test s c at b top p = held_by s c at p b && eqb (truncation_of s c at p b) top
 
 abbrev pub invariant-loop-p : goal.invariant-loop-p
-invariant-loop-p l = (l.p ≤ l.count) × (l.place ≡ stands_at l.s l.c l.at l.p) × Passed (test l.s l.c l.at l.b l.top) l.p
-
-abbrev pub decreases-loop-p : goal.decreases-loop-p
-decreases-loop-p l = l.count - l.p
+invariant-loop-p l = (l.place ≡ stands_at l.s l.c l.at l.p) × Passed (test l.s l.c l.at l.b l.top) l.p

@@ -1,14 +1,13 @@
--- `segments::components::components_row`: the loop's verdict is that of the components passed. Assumes nothing.
-use mathlib.Core.Path.{◌≡◌, ◌∙◌}
+-- `segments::components::components_row`: the components passed refuse nothing, and the one at hand decides. Assumes nothing.
+use mathlib.Core.Path.{sym}
 use native.Mathlib.Omega.{arith}
-use Rattle.rows.specs.Rows.{first, each}
-use Rattle.rows.proofs.Tables.{each_none, each_more}
+use Rattle.rows.proofs.Tables.{each_none}
+use Rattle.rows.proofs.Passing.{each_handed, each_passed}
 use Rattle.segments.specs.Components.{component_checks}
 use Rattle.segments.proofs.components.components_row.Goals as goal
 
 pub loop-c-init : goal.loop-c-init
-loop-c-init c =
-    (omega arith, each_none _)
+loop-c-init c = sym (each_none _)
 
 pub component_row-requires : goal.component_row-requires
 component_row-requires c =
@@ -18,13 +17,10 @@ component_row-requires c =
 
 pub loop-c-preserved : goal.loop-c-preserved
 loop-c-preserved c =
-    let l = c.loop-c in
     let a = c.args in
-    (omega arith, each_more l.c (component_checks a.s.now a.h a.p) c.then-v.ensures l.invariant.1 c.component_row.ensures)
+    each_passed c.loop-c.c (component_checks a.s.now a.h a.p) c.loop-c.invariant c.component_row.ensures c.branch-component_row.ensures c.in_ok-component_row.is
 
-pub returns : goal.returns
-returns c =
-    let l = c.loop-c in
+pub returns-in_err-component_row : goal.returns-in_err-component_row
+returns-in_err-component_row c =
     let a = c.args in
-    let e : l.c ≡ a.h.nc = omega arith in
-    l.invariant.1 ∙ (λ i. first (each (e i) (component_checks a.s.now a.h a.p)))
+    each_handed c.loop-c.c (component_checks a.s.now a.h a.p) c.loop-c.invariant c.component_row.ensures a.h.nc (omega arith) c.branch-component_row.ensures c.in_err-component_row.is c.from_residual.ensures.1

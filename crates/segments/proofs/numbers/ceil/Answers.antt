@@ -1,4 +1,4 @@
--- `segments::numbers::ceil`: and for b = 0 a law. Assumes nothing.
+-- `segments::numbers::ceil` meets its contract. Assumes nothing.
 use mathlib.Core.Path.{sym}
 use native.Mathlib.Nat.{div-zero}
 use Rattle.segments.proofs.numbers.ceil.Goals as goal

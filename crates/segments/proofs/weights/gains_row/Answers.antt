@@ -1,24 +1,20 @@
--- `segments::weights::gains_row`: the loop's verdict is that of the gains passed. Assumes nothing.
-use mathlib.Core.Path.{◌≡◌, ◌∙◌}
+-- `segments::weights::gains_row`: the gains passed refuse nothing, and the one at hand decides. Assumes nothing.
+use mathlib.Core.Path.{sym}
 use native.Mathlib.Omega.{arith}
-use Rattle.rows.specs.Rows.{first}
-use Rattle.rows.proofs.Tables.{each_none, each_more}
-use Rattle.segments.specs.Weights.{gain_row, gain_checks}
+use Rattle.rows.proofs.Tables.{each_none}
+use Rattle.rows.proofs.Passing.{each_handed, each_passed}
+use Rattle.segments.specs.Weights.{gain_row}
 use Rattle.segments.proofs.weights.gains_row.Goals as goal
 
 pub loop-k-init : goal.loop-k-init
-loop-k-init c =
-    (omega arith, each_none _)
+loop-k-init c = sym (each_none _)
 
 pub loop-k-preserved : goal.loop-k-preserved
 loop-k-preserved c =
-    let l = c.loop-k in
     let a = c.args in
-    (omega arith, each_more l.k (gain_row a.s.now a.p) c.then-v.ensures l.invariant.1 c.gain_row.ensures)
+    each_passed c.loop-k.k (gain_row a.s.now a.p) c.loop-k.invariant c.gain_row.ensures c.branch-gain_row.ensures c.in_ok-gain_row.is
 
-pub returns : goal.returns
-returns c =
-    let l = c.loop-k in
+pub returns-in_err-gain_row : goal.returns-in_err-gain_row
+returns-in_err-gain_row c =
     let a = c.args in
-    let e : l.k ≡ a.n = omega arith in
-    l.invariant.1 ∙ (λ i. first (gain_checks a.s.now a.p (e i)))
+    each_handed c.loop-k.k (gain_row a.s.now a.p) c.loop-k.invariant c.gain_row.ensures a.n (omega arith) c.branch-gain_row.ensures c.in_err-gain_row.is c.from_residual.ensures.1

@@ -10,4 +10,4 @@ pub returns-then-exists : goal.returns-then-exists
 returns-then-exists c =
     let a = c.args in
     rw c.if-exists.true
-    (c.one.ensures ∙ (λ i. first (check Mode (a.at + a.bit / 8) D (c.field-d.ensures.value i % 2) 0 0 ∷ [])))
+    (c.first.ensures ∙ (λ i. first (check Mode (a.at + a.bit / 8) D (c.field-d.ensures.value i % 2) 0 0 ∷ [])))

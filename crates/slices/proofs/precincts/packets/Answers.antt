@@ -30,7 +30,7 @@ pub packet_turn-f-requires : goal.packet_turn-f-requires
 packet_turn-f-requires c =
     let h = c.requires in
     let l = c.loop-slot in
-    (h.0, standing_still h.1 l.invariant.2, l.invariant.1, omega (arith, c.loop-slot-test.true, c.slot_count-n.ensures.0), h.2)
+    (h.0, standing_still h.1 l.invariant.2, l.invariant.1, omega (arith, c.loop-slot-test.true, c.slot_count-slot-end.ensures.0), h.2)
 
 -- the step to the next slot has its pieces
 pub and-bytes-requires : goal.and-bytes-requires
@@ -39,19 +39,19 @@ and-bytes-requires c =
     let a = c.args in
     let h = c.requires in
     let f = c.packet_turn-f in
-    let v = c.in-Fine.is in
+    let v = c.in-Ok.is in
     let goes = passed_goes f.ensures v in
     let tiles = slot_tiles a.s.now a.c a.p.row a.p.column a.p.at l.slot (l.at, l.raws, l.cells) _ (omega (arith, l.invariant.1, ends_at h.2)) goes in
     omega (arith, adds_up l.invariant.3 goes tiles.1 f.ensures.bytes v, f.ensures.inside v, h.2.small)
 
-pub returns-in-Refused : goal.returns-in-Refused
+pub returns-in-Err : goal.returns-in-Err
 unfolding packets
-returns-in-Refused c =
+returns-in-Err c =
     let l = c.loop-slot in
     let a = c.args in
-    let v = c.in-Refused.is in
+    let v = c.in-Err.is in
     record {
-      is = settled (stops l.invariant.0 (omega (arith, c.loop-slot-test.true, c.slot_count-n.ensures.0)) (passed_stops c.packet_turn-f.ensures v)) v;
+      is = settled (stops l.invariant.0 (omega (arith, c.loop-slot-test.true, c.slot_count-slot-end.ensures.0)) (passed_stops c.packet_turn-f.ensures v)) v;
       bytes = refused_bytes (bytes_of (precinct_pieces a.s.now a.c a.p.row a.p.column a.p.at a.cells.now)) v;
     }
 
@@ -61,10 +61,10 @@ loop-slot-preserved c =
     let a = c.args in
     let h = c.requires in
     let f = c.packet_turn-f in
-    let v = c.in-Fine.is in
+    let v = c.in-Ok.is in
     let goes = passed_goes f.ensures v in
     let tiles = slot_tiles a.s.now a.c a.p.row a.p.column a.p.at l.slot (l.at, l.raws, l.cells) _ (omega (arith, l.invariant.1, ends_at h.2)) goes in
-    let below : l.slot < slots a.c.shape = omega (arith, c.loop-slot-test.true, c.slot_count-n.ensures.0) in (
+    let below : l.slot < slots a.c.shape = omega (arith, c.loop-slot-test.true, c.slot_count-slot-end.ensures.0) in (
       goes_on l.invariant.0 below goes,
       f.ensures.inside v,
       f.auto.cells ∙ l.invariant.2,
@@ -79,7 +79,7 @@ unfolding packets
 returns c =
     let l = c.loop-slot in
     let x = c.requires.2 in
-    let past : slots c.args.c.shape ≤ l.slot = omega (arith, c.loop-slot-test.false, c.slot_count-n.ensures.0) in
+    let past : slots c.args.c.shape ≤ l.slot = omega (arith, c.loop-slot-test.false, c.slot_count-slot-end.ensures.0) in
     record {
       is = settled (ends l.invariant.0 past) (c.rest_row-v.ensures ∙ rest_is l.at x);
       bytes = c.by.ensures ∙ ap (bytes_by c.rest_row-v.result) (sym (bytes_end l.bytes) ∙ adds_end l.invariant.3 past);

@@ -1,4 +1,4 @@
-use Prim.Native.Nat.{◌≤◌, ◌-◌}
+use Prim.Native.Nat.{◌≤◌}
 use mathlib.Core.Path.{◌≡◌}
 use lib.ListN.{length}
 use Rattle.loops.proofs.Laws.{Going}
@@ -14,6 +14,3 @@ invariant-loop-slot l =
     (body l.s l.c l.p.row l.p.column l.p.at, no_flags l.s l.c l.p.row l.p.column l.p.at, l.initial.cells) l.slot (l.at, l.raws, l.cells)
     × (l.at ≤ l.p.end) × (length l.cells ≡ length l.initial.cells)
     × SlotsAdding l.s l.c l.p.row l.p.column l.p.at l.initial.cells l.slot (l.at, l.raws, l.cells) l.bytes
-
-abbrev pub decreases-loop-slot : goal.decreases-loop-slot
-decreases-loop-slot l = l.n - l.slot

@@ -20,11 +20,11 @@ walk_turn-r-requires c =
     let h = c.requires in
     (h.0, h.1, c.loop-n.invariant.1)
 
-pub returns-in-Refused : goal.returns-in-Refused
+pub returns-in-Err : goal.returns-in-Err
 unfolding walk_precincts
-returns-in-Refused c =
+returns-in-Err c =
     let l = c.loop-n in
-    let v = c.in-Refused.is in
+    let v = c.in-Err.is in
     record {
       is = settled (stops l.invariant.0 (omega (arith, c.loop-n-test.true, c.precincts_in_slice-count.ensures)) (walk_stops c.walk_turn-r.ensures v)) v;
       inside = λ e. clash (sym v ∙ e);
@@ -34,7 +34,7 @@ pub loop-n-preserved : goal.loop-n-preserved
 loop-n-preserved c =
     let l = c.loop-n in
     let r = c.walk_turn-r.ensures in
-    let v = c.in-Fine.is in
+    let v = c.in-Ok.is in
     (goes_on l.invariant.0 (omega (arith, c.loop-n-test.true, c.precincts_in_slice-count.ensures)) (walk_goes r v), r.inside v)
 
 pub returns : goal.returns

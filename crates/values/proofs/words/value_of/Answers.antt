@@ -15,10 +15,10 @@ module _ (c : After-size_by) where
   whole : c.size_by.result * 2 ^ c.args.fq % 2 ^ 64 ≡ c.size_by.result * 2 ^ c.args.fq
   whole = omega (arith, small)
 
-pub signed_index-requires : goal.signed_index-requires
-signed_index-requires c = omega (arith, small (goal.at.signed_index-requires c).After-size_by)
+pub signed-requires : goal.signed-requires
+signed-requires c = omega (arith, small (goal.at.signed-requires c).After-size_by)
 
 pub returns : goal.returns
 returns c =
     let a = c.args in
-    rw (back64 _ c.signed_index.type_inv, coefficient_scaled a.uniform a.m a.t a.fq (eqb a.sign 1) a.v, ← c.size_by.ensures, ← whole (goal.at.returns c).After-size_by) c.signed_index.ensures
+    rw (back64 _ c.signed.type_inv, coefficient_scaled a.uniform a.group.m a.group.t a.fq (eqb a.sign 1) a.v, ← c.size_by.ensures, ← whole (goal.at.returns c).After-size_by) c.signed.ensures

@@ -6,20 +6,8 @@ use Rattle.wavelet.proofs.Tame.{tame}
 use Rattle.wavelet.proofs.Running.{first_small, first_is, end_inside, last_small, last_ends, end_room, end_small, end_ends}
 use Rattle.wavelet.proofs.lines.filter_line.Goals as goal
 
-pub overflow_add-high : goal.overflow_add-high
-overflow_add-high c = omega (arith, c.well_formed.0, c.requires.inside 1 c.requires.two)
-
-pub offset_bounds-cells-base : goal.offset_bounds-cells-base
-offset_bounds-cells-base c = omega (arith, c.well_formed.0, c.requires.inside 1 c.requires.two)
-
 pub slice_copy_out-high : goal.slice_copy_out-high
 slice_copy_out-high c = omega (arith, c.requires.inside 1 c.requires.two)
-
-pub offset_bounds-cells-base-2 : goal.offset_bounds-cells-base-2
-offset_bounds-cells-base-2 c = omega (arith, c.well_formed.0, c.requires.inside 1 c.requires.two)
-
-pub slice_copy_out-even_of : goal.slice_copy_out-even_of
-slice_copy_out-even_of c = omega (arith, c.requires.inside 1 c.requires.two)
 
 pub even_of-first-requires : goal.even_of-first-requires
 even_of-first-requires c = simp (back64, c.even_of-arg-1.given, c.high-1.given) (first_small c.requires)
@@ -28,18 +16,6 @@ pub pairs_of_line-requires : goal.pairs_of_line-requires
 pairs_of_line-requires c =
     let e = c.even_of-first in
     record { line = c.requires; first_value = rw (back64 e.result e.type_inv, e.ensures) (simp (back64, c.even_of-arg-1.given, c.high-1.given) (first_is c.requires (steps_of c.args.kind))) }
-
-pub overflow_sub-odd : goal.overflow_sub-odd
-overflow_sub-odd c = omega (arith, c.requires.two)
-
-pub overflow_sub-odd-2 : goal.overflow_sub-odd-2
-overflow_sub-odd-2 c = omega (arith, c.requires.two)
-
-pub overflow_mul-odd : goal.overflow_mul-odd
-overflow_mul-odd c = let p = c.pairs_of_line.ensures in omega (arith, c.well_formed.0, p.same, end_inside (tame c.args.kind) c.requires _ (omega (arith, c.requires.two)) p (omega (arith, c.requires.two)))
-
-pub overflow_add-odd : goal.overflow_add-odd
-overflow_add-odd c = let p = c.pairs_of_line.ensures in omega (arith, c.well_formed.0, p.same, end_inside (tame c.args.kind) c.requires _ (omega (arith, c.requires.two)) p (omega (arith, c.requires.two)))
 
 pub overflow_sub-odd-then-n-eq0-2 : goal.overflow_sub-odd-then-n-eq0-2
 overflow_sub-odd-then-n-eq0-2 c =

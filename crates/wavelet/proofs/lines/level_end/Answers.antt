@@ -3,14 +3,8 @@ use mathlib.Core.Path.{◌≡◌}
 use Prim.Native.Nat.{◌+◌}
 use native.Mathlib.Omega.{arith}
 use Rattle.wavelet.proofs.Tame.{tame}
-use Rattle.wavelet.proofs.Level.{above_row, even_ready, close_ready, close_next, last_ready, last_next}
+use Rattle.wavelet.proofs.Level.{even_ready, close_ready, close_next, last_ready, last_next}
 use Rattle.wavelet.proofs.lines.level_end.Goals as goal
-
-pub overflow_mul-odd : goal.overflow_mul-odd
-overflow_mul-odd c = let m = c.requires.0 in omega (arith, c.well_formed.0, m.run.onto.same, m.grid.inside c.args.j 0 (omega (arith, m.run.most)) (omega (arith, m.grid.two_across)))
-
-pub overflow_add-j : goal.overflow_add-j
-overflow_add-j c = omega (arith, c.requires.0.run.most, c.ranges.n)
 
 pub overflow_add-odd : goal.overflow_add-odd
 overflow_add-odd c = let m = c.requires.0 in omega (arith, c.well_formed.0, m.run.onto.same, m.grid.inside (c.args.j + 1) 0 c.if-j-n.true (omega (arith, m.grid.two_across)))
@@ -26,12 +20,6 @@ pairs_of_rows-requires c =
     let m = c.requires.0 in
     let T = tame c.args.kind in
     close_ready T m.grid m.within _ m.odd m.run c.filter_line.ensures (omega (arith, c.requires.1, c.if-j-n.true))
-
-pub overflow_sub-odd-else-j-n : goal.overflow_sub-odd-else-j-n
-overflow_sub-odd-else-j-n c =
-    let m = c.requires.0 in
-    let T = tame c.args.kind in
-    above_row T m.grid m.within m.run m.odd
 
 pub lift-requires : goal.lift-requires
 lift-requires c =

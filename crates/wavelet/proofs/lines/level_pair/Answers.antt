@@ -5,17 +5,11 @@ use Rattle.wavelet.proofs.Tame.{tame}
 use Rattle.wavelet.proofs.Level.{even_ready, behind_ready, turn_ready, turn_next}
 use Rattle.wavelet.proofs.lines.level_pair.Goals as goal
 
-pub overflow_mul-odd : goal.overflow_mul-odd
-overflow_mul-odd c = let m = c.requires.0 in omega (arith, c.well_formed.0, m.run.onto.same, m.grid.inside (c.args.j + 2) 0 c.requires.1 (omega (arith, m.grid.two_across)))
-
 pub overflow_mul-next : goal.overflow_mul-next
 overflow_mul-next c = let m = c.requires.0 in omega (arith, c.well_formed.0, m.run.onto.same, m.grid.inside (c.args.j + 2) 0 c.requires.1 (omega (arith, m.grid.two_across)))
 
 pub overflow_add-next : goal.overflow_add-next
 overflow_add-next c = let m = c.requires.0 in omega (arith, c.well_formed.0, m.run.onto.same, m.grid.inside (c.args.j + 2) 0 c.requires.1 (omega (arith, m.grid.two_across)))
-
-pub overflow_add-odd : goal.overflow_add-odd
-overflow_add-odd c = let m = c.requires.0 in omega (arith, c.well_formed.0, m.run.onto.same, m.grid.inside (c.args.j + 2) 0 c.requires.1 (omega (arith, m.grid.two_across)))
 
 pub filter_line-requires : goal.filter_line-requires
 filter_line-requires c =

@@ -1,36 +1,20 @@
--- `wavelet::lines::odd_of` meets its contract. Assumes nothing.
-use native.Mathlib.Omega.{arith}
+-- `wavelet::lines::odd_of` meets its contract, kind by kind. Assumes nothing.
 use lib.IntN.{+ℤ_idr}
-use borrow.Author.Tests.{eq-eqb, ne_eqb}
 use mir.ValLaws.{to_z-of_z}
 use Rattle.whole.proofs.Machine.{back64}
 use Rattle.wavelet.specs.Filter.{samples}
-use Rattle.wavelet.specs.Kinds.{rises, steps_of}
-use Rattle.wavelet.proofs.Sizes.{summable, odd_fits, odd_rise_fits}
+use Rattle.wavelet.specs.Kinds.{rises}
+use Rattle.wavelet.proofs.Sizes.{odd_fits, odd_rise_fits}
 use Rattle.wavelet.proofs.lines.odd_of.Goals as goal
 
-pub half-requires : goal.half-requires
-half-requires c = simp (to_z-of_z, c.ranges.l, c.ranges.r) (summable c.requires _ (omega arith))
-
-pub overflow_add-result : goal.overflow_add-result
-overflow_add-result c =
-    rw (back64 c.half.result c.half.type_inv, c.half.ensures, +ℤ_idr) (simp (to_z-of_z, c.ranges.x, c.ranges.l, c.ranges.r) (odd_fits c.requires))
-
-pub half-requires-else-kind-eq0 : goal.half-requires-else-kind-eq0
-half-requires-else-kind-eq0 c = simp (to_z-of_z, c.ranges.l, c.ranges.r) (summable c.requires _ (omega arith))
-
-pub overflow_add-result-else-kind-eq0 : goal.overflow_add-result-else-kind-eq0
-overflow_add-result-else-kind-eq0 c =
-    rw (back64 c.half-else-kind-eq0.result c.half-else-kind-eq0.type_inv, c.half-else-kind-eq0.ensures) (simp (to_z-of_z, c.ranges.x, c.ranges.l, c.ranges.r) (odd_rise_fits c.requires))
-
-pub returns-then-kind-eq0 : goal.returns-then-kind-eq0
-unfolding steps_of samples
-returns-then-kind-eq0 c =
-    rw (eq-eqb c.args.kind 0 c.if-kind-eq0.true, back64 c.half.result c.half.type_inv, c.half.ensures, +ℤ_idr)
+pub returns-in-Samples : goal.returns-in-Samples
+unfolding samples
+returns-in-Samples c =
+    rw (c.in-Samples.is, back64 c.half.result c.half.type_inv, c.half.ensures, +ℤ_idr)
     (simp (to_z-of_z, c.ranges.x, c.ranges.l, c.ranges.r, odd_fits c.requires))
 
-pub returns-else-kind-eq0 : goal.returns-else-kind-eq0
-unfolding steps_of rises
-returns-else-kind-eq0 c =
-    rw (ne_eqb c.args.kind 0 c.if-kind-eq0.false, back64 c.half-else-kind-eq0.result c.half-else-kind-eq0.type_inv, c.half-else-kind-eq0.ensures)
+pub returns-in-Numbers : goal.returns-in-Numbers
+unfolding rises
+returns-in-Numbers c =
+    rw (c.in-Numbers.is, back64 c.half-in-Numbers.result c.half-in-Numbers.type_inv, c.half-in-Numbers.ensures)
     (simp (to_z-of_z, c.ranges.x, c.ranges.l, c.ranges.r, odd_rise_fits c.requires))

@@ -3,12 +3,8 @@ use mathlib.Core.Path.{refl}
 use mir.ValLaws.{to_z-of_z}
 use Rattle.whole.proofs.Machine.{back64}
 use Rattle.wavelet.proofs.Tame.{tame}
-use Rattle.wavelet.proofs.Pairs.{pair_onto, even_small, odd_small}
+use Rattle.wavelet.proofs.Pairs.{pair_onto, odd_small}
 use Rattle.wavelet.proofs.lines.pair_at.Goals as goal
-
-pub even_of-even-requires : goal.even_of-even-requires
-even_of-even-requires c =
-    simp (to_z-of_z, back64, c.ranges.high, c.ranges.next, c.even_of-arg-1.given) (even_small c.requires.small_pair)
 
 pub odd_of-requires : goal.odd_of-requires
 odd_of-requires c =

@@ -3,11 +3,5 @@ use mir.ValLaws.{to_z-of_z}
 use Rattle.wavelet.proofs.Sizes.{sum_fits, sum_more_fits, shift_fits}
 use Rattle.wavelet.proofs.lines.quarter.Goals as goal
 
-pub overflow_add-result : goal.overflow_add-result
-overflow_add-result c = simp (to_z-of_z, c.ranges.l, c.ranges.r) (sum_fits c.requires)
-
-pub overflow_add-result-2 : goal.overflow_add-result-2
-overflow_add-result-2 c = simp (to_z-of_z, c.ranges.l, c.ranges.r, c.ranges.more, sum_fits c.requires) (sum_more_fits c.requires)
-
 pub returns : goal.returns
 returns c = simp (to_z-of_z, c.ranges.l, c.ranges.r, c.ranges.more, sum_fits c.requires, sum_more_fits c.requires, shift_fits c.requires 4)

@@ -6,8 +6,8 @@ pub returns : goal.returns
 returns c =
     is_header
     c.requires.1
-    c.new-start.ensures
+    c.new-cursor.ensures
     c.read-dr.ensures
-    c.read-dat.ensures
-    c.read-cnt.ensures
-    c.read-sgn.ensures
+    c.read-ldat.ensures
+    c.read-lcnt.ensures
+    c.read-lsgn.ensures

@@ -1,6 +1,6 @@
 -- `header::walk::Walk::begin`: nothing is seen yet. Assumes nothing.
 use mathlib.Core.Bool.{false}
-use Rattle.rows.specs.declared.Verdict.TheVariants.{Fine}
+use Rattle.rows.specs.Rows.{Fine}
 use Rattle.header.proofs.walk.Walk.begin.Goals as goal
 
 pub returns : goal.returns

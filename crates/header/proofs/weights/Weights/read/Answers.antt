@@ -3,6 +3,7 @@ use mathlib.Core.Bool.{cond}
 use mathlib.Core.Path.{◌≡◌, refl, ◌∙◌}
 use native.Mathlib.Omega.{arith}
 use lib.Dec.{lit≤}
+use borrow.Author.Rules.{rules}
 use Rattle.segments.specs.Bands.{existing}
 use Rattle.segments.specs.Weights.{gain_at, priority_at}
 use Rattle.segments.proofs.BandLaws.{existing_more}
@@ -14,19 +15,15 @@ use Rattle.header.proofs.weights.Weights.read.Goals as goal
 pub loop-b-init : goal.loop-b-init
 unfolding existing
 loop-b-init c =
-    (omega arith, refl, omega arith, filled_none refl, filled_none refl)
+    (refl, omega arith, filled_none refl, filled_none refl)
 
 pub bounds-gains-b : goal.bounds-gains-b
 bounds-gains-b c =
-    omega (arith, c.loop-b.invariant.3.long, c.loop-b-test.true)
+    omega (arith, c.loop-b.invariant.2.long, c.loop-b-test.true)
 
 pub bounds-priorities-b : goal.bounds-priorities-b
 bounds-priorities-b c =
-    omega (arith, c.loop-b.invariant.4.long, c.loop-b-test.true)
-
-pub overflow_add-k : goal.overflow_add-k
-overflow_add-k c =
-    omega (arith, c.loop-b.invariant.2, c.loop-b-test.true, cond_le c.is_band-is.result 1 0 1 (lit≤ tt) (lit≤ tt) c.choose-k.ensures)
+    omega (arith, c.loop-b.invariant.3.long, c.loop-b-test.true)
 
 pub loop-b-preserved : goal.loop-b-preserved
 loop-b-preserved c =
@@ -34,18 +31,17 @@ loop-b-preserved c =
     let a = c.args in
     let s = a.s.now in
     let is = c.is_band-is.ensures in
-    let one = c.choose-k.ensures in
-    let g = c.byte_if.ensures ∙ (λ i. cond (is i) (gain_at s a.wgt (l.invariant.1 i)) 0) in
-    let p = c.byte_if-in-loop-b.ensures ∙ (λ i. cond (is i) (priority_at s a.wgt (l.invariant.1 i)) 0) in (
-      omega arith,
-      existing_more (band_is s a.h a.cdt) l.b l.invariant.1 (one ∙ (λ i. cond (is i) 1 0)),
-      omega (arith, l.invariant.2, cond_le c.is_band-is.result 1 0 1 (lit≤ tt) (lit≤ tt) one),
-      filled_more l.invariant.3 c.loop-b-test.true g,
-      filled_more l.invariant.4 c.loop-b-test.true p,
+    let one : c.from-k.result ≡ cond c.is_band-is.result 1 0 = search rules in
+    let g = c.byte_if.ensures ∙ (λ i. cond (is i) (gain_at s a.wgt (l.invariant.0 i)) 0) in
+    let p = c.byte_if-in-loop-b.ensures ∙ (λ i. cond (is i) (priority_at s a.wgt (l.invariant.0 i)) 0) in (
+      existing_more (band_is s a.h a.cdt) l.b l.invariant.0 (one ∙ (λ i. cond (is i) 1 0)),
+      omega (arith, l.invariant.1, cond_le c.is_band-is.result 1 0 1 (lit≤ tt) (lit≤ tt) one),
+      filled_more l.invariant.2 c.loop-b-test.true g,
+      filled_more l.invariant.3 c.loop-b-test.true p,
     )
 
 pub returns : goal.returns
 returns c =
     let l = c.loop-b in
     let e : l.b ≡ 40 = omega arith in
-    λ i. record { gains = filled_all l.invariant.3 e i; priorities = filled_all l.invariant.4 e i }
+    λ i. record { gains = filled_all l.invariant.2 e i; priorities = filled_all l.invariant.3 e i }

@@ -17,7 +17,7 @@ returns c =
       value =
           λ i.
           record {
-            verdict = joined (start_checks s) (picture_checks s (picture_place s)) c.then.ensures c.start_row.ensures later i;
+            verdict = joined (start_checks s) (picture_checks s (picture_place s)) c.and.ensures c.start_row.ensures later i;
             place = p i;
             picture = (c.read-picture.ensures ∙ (λ j. picture_at s (p j))) i;
           };

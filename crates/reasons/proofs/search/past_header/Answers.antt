@@ -1,9 +1,0 @@
--- `reasons::search::past_header` meets its contract. Assumes nothing.
-use borrow.Author.Tests.{eq-eqb, ne_eqb}
-use Rattle.reasons.proofs.search.past_header.Goals as goal
-
-pub returns-then-n-eq0 : goal.returns-then-n-eq0
-returns-then-n-eq0 c = rw (eq-eqb _ _ c.if-n-eq0.true)
-
-pub returns : goal.returns
-returns c = rw (ne_eqb _ _ c.if-n-eq0.false)
