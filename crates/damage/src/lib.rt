@@ -46,7 +46,7 @@ fn behind_slice(
             Reading {
                 verdict: Ok(()),
                 at: to,
-                tops: tops,
+                tops,
                 bytes: header.and(Bytes::of_spoilt(to - from)),
             }
         }
@@ -124,7 +124,7 @@ fn behind_all(s: &[u8], at: usize, tops: [usize; 40], bytes: Bytes) -> Reading
     Reading {
         verdict: v,
         at: at + 2,
-        tops: tops,
+        tops,
         bytes: whole.by(v),
     }
 }

@@ -12,7 +12,8 @@ use segments::kinds::{Kind, kind_of};
 use segments::seen::Seen;
 use segments::tables::segment_row;
 
-// Where the walk is, whether it has ended, with which verdict, and what it has seen.
+// Where the walk is, whether it has ended, with which verdict, and what it has seen. One record with a flag, since the steps of specs/Walk and Turns are said of
+// it, and say place and segments of a refused walk too.
 #[derive(Clone, Copy)]
 pub struct Walk {
     // the place of the segment at hand
@@ -117,6 +118,7 @@ pub(crate) fn walk_from(s: &[u8], h: Picture, p: usize) -> Walk
     ensures { IsWalk s.now h p result }
 {
     let mut w = Walk::begin(p);
+    // no count to run over: where the next segment begins is known when this one is read
     while !w.done {
         w = step(s, h, w);
     }

@@ -15,10 +15,6 @@ letter_low a b e = rw e
 
 -- ---- ceilings
 
--- what the library's `div_ceil` answers is the ceiling
-pub div_ceil_is : (e m : ℕ) → 0 < m → div_ceil e m ≡ ceil_div e m
-div_ceil_is e m h = grind arith
-
 -- at most the number itself, and at least 1 of a number that is not 0
 pub ceil_most : (e m : ℕ) → 0 < m → ceil_div e m ≤ e
 ceil_most zero m h = omega (arith, div-eq_of_lt {n = 0 + (m - 1)} {m = m} (omega arith))

@@ -47,7 +47,7 @@ fn sample_of(v: i64, s: Scale) -> u16
     clamp_of((v + (s.lift as i64)) >> s.shift, s.top)
 }
 
-// Document 01's distance rules 4 and 5 for one number.
+// Document 01's distance rules 4 and 5 for one number. A shift and no `div_ceil`, since this is done for every sample and 2^k divides by shifting.
 fn near_of(e: u64, s: Scale) -> u16
     requires { (e ≤ 2 ^ 60) × Usable s }
     ensures { result ≡ number_by_scale s e }

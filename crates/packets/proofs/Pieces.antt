@@ -1,19 +1,20 @@
 -- The pieces of an accepted packet tile it, from its header to the place behind it, and its contents are those that the decoders come to. Assumes nothing.
 use Rattle.counts.specs.declared.Counted.{Counted}
-use Rattle.std.specs.Prelude.{Ok, Err}
+use Rattle.std.specs.Prelude.{Result, Ok, Err}
 use Prim.Native.Nat.{ℕ, ◌+◌, ◌-◌, ◌*◌, ◌≤◌}
 use mathlib.Core.Bool.{Bool, true, false, cond}
-use mathlib.Core.List.{List, ◌++◌}
-use mathlib.Core.Path.{◌≡◌, refl, sym, ap, ◌∙◌}
+use mathlib.Core.List.{List}
+use mathlib.Core.Path.{◌≡◌, refl, sym, ap, subst, ◌∙◌}
 use native.Mathlib.Omega.{arith}
 use lib.IntN.{ℤ}
 use lib.ListN.{length, drop, length-take}
 use Rattle.whole.specs.Numbers.{ceil_div}
 use Rattle.loops.specs.Run.{go}
 use Rattle.loops.proofs.Laws.{Kept, run_keeps}
-use Rattle.rows.specs.Rows.{first, Fine, Refused, Verdict}
+use Rattle.rows.specs.Rows.{first, answered, Fine, Refused, Verdict}
 use Rattle.rows.specs.declared.Check.{Check}
 use Rattle.rows.proofs.Tables.{held}
+use Rattle.rows.proofs.Passing.{answered_ok, answered_err}
 use Rattle.pieces.specs.declared.Bytes.{Bytes}
 use Rattle.pieces.specs.Pieces.{Packets, Significance, Counts, Data, Signs, total, size, bytes_of, nothing, bytes_by}
 use Rattle.layout.specs.Cells.{start}
@@ -27,16 +28,15 @@ use Rattle.packets.specs.declared.Precinct.{Precinct}
 use Rattle.packets.specs.declared.Parts.{Parts}
 use Rattle.packets.specs.declared.Content.{Content}
 use Rattle.packets.specs.declared.Opened.{Opened}
-use Rattle.packets.specs.declared.Passed.{Passed}
 use Rattle.packets.specs.Ready.{Slotted}
 use Rattle.packets.specs.Passes.{line, marks, coding_of, place_of, Counting, counted, count_turn, packet_counts, packet_values}
-use Rattle.packets.specs.Packets.{head, cnt_at, Lsign, past, count_bytes, data_bytes, sign_bytes, head_checks, count_checks, data_checks, sign_checks, values_by, after_counts, counts_of, counts_by, packet}
+use Rattle.packets.specs.Packets.{head, cnt_at, Lsign, past, count_bytes, data_bytes, sign_bytes, head_checks, data_checks, sign_checks, values_by, after_counts, counts_of, counts_by, packet}
 use Rattle.packets.specs.Table.{values_after}
 use Rattle.packets.specs.Pieces.{count_content, data_content, sign_content, packet_pieces}
-use Rattle.packets.specs.Steps.{IsParts, Holds, part_bytes, reached, Opening, IsContent, IsPassed, Decoded}
+use Rattle.packets.specs.Steps.{IsParts, Holds, part_bytes, contents_of, Opening, IsContent, IsPassed, Decoded}
 use Rattle.packets.proofs.Laws.{clash, counts_founded, values_fine, cut_refused, high_refused, long_refused}
 use Rattle.packets.proofs.Nibbles.{packet_need}
-use Rattle.packets.proofs.Stretches.{long_cnt, long_dat, long_sgn, counts_stand}
+use Rattle.packets.proofs.Stretches.{long_cnt, long_dat, long_sgn}
 
 -- ---- the counts end in their stretch
 
@@ -122,7 +122,7 @@ module _ (s : List ℕ) (c : Setting) (p : Precinct) (slot at : ℕ) (cells : Li
 
   module _ {parts : Parts} (is : IsParts s c p slot at parts) where
     -- the parts of a packet whose contents fit
-    pub parts_hold : Fits → Holds parts (count_content counts.0) (data_content counts.0) (sign_content (values_after s c p slot at cells).0)
+    pub parts_hold : Fits → Holds parts (contents_of s c p slot at counts)
     parts_hold fits =
         record {
           sig = omega (arith, is.place, is.sig);
@@ -133,7 +133,7 @@ module _ (s : List ℕ) (c : Setting) (p : Precinct) (slot at : ℕ) (cells : Li
           small = is.small;
         }
 
-    pub parts_bytes : bytes_of (packet_pieces s c p slot at cells) ≡ part_bytes parts (count_content counts.0) (data_content counts.0) (sign_content (values_after s c p slot at cells).0)
+    pub parts_bytes : bytes_of (packet_pieces s c p slot at cells) ≡ part_bytes parts (contents_of s c p slot at counts)
     unfolding packet_pieces total
     parts_bytes =
         let ps = packet_pieces s c p slot at cells in
@@ -153,51 +153,55 @@ module _ (s : List ℕ) (c : Setting) (p : Precinct) (slot at : ℕ) (cells : Li
         joined : (k n g : ℕ) → 0 + (0 + (0 + (k + (0 + (n + (0 + (g + 0))))))) ≡ k + n + g
         joined k n g = omega arith
 
-    -- what the decoders of an accepted packet's subpackets answer are its contents
-    module _ {x : LineCounts × List ℤ} {r : Content} {cells' : List ℤ} (e : counts_of s c p slot at cells ≡ x) (h : IsContent s c p slot at x r cells') where
-      fine_after : r.verdict ≡ Fine → (after_counts s c p slot at x).0 ≡ Fine
-      fine_after f = (λ i. (h.left i).0) ∙ f
+    -- what the decoders of the subpackets answer
+    module _ {x : LineCounts × List ℤ} {q : Result Content Check} {cells' : List ℤ} (e : counts ≡ x) (h : IsContent s c p slot at x q cells') where
+      -- where they refuse nothing, the contents of the packet
+      accepted : {k : Content} → q ≡ Ok k → ((after_counts s c p slot at counts).0 ≡ Fine) × (contents_of s c p slot at counts ≡ k)
+      accepted f =
+          let both = answered_ok (after_counts s c p slot at x).0 (contents_of s c p slot at x) (sym h.read ∙ f) in
+          ((λ i. (after_counts s c p slot at (e i)).0) ∙ both.0, ap (contents_of s c p slot at) e ∙ both.1)
 
-      contents : r.verdict ≡ Fine → (r.counts ≡ count_content counts.0) × (r.«data» ≡ data_content counts.0) × (r.signs ≡ sign_content (values_after s c p slot at cells).0)
-      contents f = (
-        h.counts ∙ (λ i. count_content (sym e i).0),
-        h.«data» ∙ (λ i. data_content (sym e i).0),
-        h.signs
-            ∙ (λ i. reached (values_fine s c p slot at (first (count_checks s c p slot at x.0 ++ data_checks s c p slot at x.0)) x.1 (fine_after f) i) (sign_content (packet_values c p slot (data_bytes s c p slot at) (sign_bytes s c p slot at) x.1).0))
-            ∙ (λ i. sign_content (packet_values c p slot (data_bytes s c p slot at) (sign_bytes s c p slot at) (sym e i).1).0),
-      )
-
-      pub content_holds : r.verdict ≡ Fine → Holds parts r.counts r.«data» r.signs
+      pub content_holds : {k : Content} → q ≡ Ok k → Holds parts k
       content_holds f =
-          let same = contents f in
-          rw (same.0, same.1, same.2) (parts_hold (by_counts counts refl founded ((λ i. (after_counts s c p slot at (e i)).0) ∙ fine_after f)))
+          let both = accepted f in
+          subst (Holds parts) both.1 (parts_hold (by_counts counts refl founded both.0))
 
-      pub passed_on : {v : Verdict} {b : Bytes} → v ≡ Fine → b ≡ bytes_by r.verdict (part_bytes parts r.counts r.«data» r.signs)
-          → IsPassed s c p slot at v cells (record { verdict = r.verdict; bytes = b }) cells'
-      passed_on f g =
+      pub passed_on : {v : Verdict} {k : Content} {b : Bytes} → v ≡ Fine → q ≡ Ok k → b ≡ part_bytes parts k → IsPassed s c p slot at v cells (Ok b) cells'
+      passed_on fine f g =
+          let both = accepted f in
+          let same = g ∙ ap (part_bytes parts) (sym both.1) ∙ sym parts_bytes in
           record {
-            left = (λ i. counts_by s c p slot at (f i) cells) ∙ ap (after_counts s c p slot at) e ∙ h.left;
-            bytes = g ∙ same r.verdict contents;
+            read = (λ i. answered (sym both.0 i) (same i)) ∙ (λ i. answered (counts_by s c p slot at (sym fine i) cells).0 (bytes_of (packet_pieces s c p slot at cells)));
+            left = h.left ∙ (λ i. (after_counts s c p slot at (sym e i)).1) ∙ (λ i. (counts_by s c p slot at (sym fine i) cells).1);
           }
-        where
-          same : (v : Verdict) → (v ≡ Fine → (r.counts ≡ count_content counts.0) × (r.«data» ≡ data_content counts.0) × (r.signs ≡ sign_content (values_after s c p slot at cells).0))
-              → bytes_by v (part_bytes parts r.counts r.«data» r.signs) ≡ bytes_by v (bytes_of (packet_pieces s c p slot at cells))
-          same (Ok _) h = let k = h refl in (λ i. part_bytes parts (k.0 i) (k.1 i) (k.2 i)) ∙ sym parts_bytes
-          same (Err w) h = refl
-
-  -- and a refused header leaves none
-  pub passed_none : {v : Verdict} {k : Check} → v ≡ Refused k → IsPassed s c p slot at v cells (record { verdict = v; bytes = nothing }) cells
-  passed_none e = record { left = counts_stand s c p slot at cells e; bytes = λ i. bytes_by (sym e i) (bytes_of (packet_pieces s c p slot at cells)) }
 
 -- the packet, by its header and what follows it
-pub packet_decoded : (s : List ℕ) (c : Setting) (p : Precinct) (slot at : ℕ) (raws : List ℕ) (cells : List ℤ) {o : Opened} {r : Passed} {cells' : List ℤ} → Opening s c p slot at raws o
-    → IsPassed s c p slot o.parts.at o.verdict cells r cells'
-    → Decoded s c p slot at raws cells (record { verdict = r.verdict; dr = o.dr; past = o.parts.past; bytes = r.bytes }) cells'
-unfolding packet
-packet_decoded s c p slot at raws cells {o} {r} o_is h =
-    record {
-      left = (λ i. counts_by s c p slot (sym o_is.parts.place i) (sym o_is.verdict i) cells) ∙ h.left;
-      dr = o_is.dr;
-      past = o_is.parts.past;
-      bytes = h.bytes ∙ (λ i. bytes_by r.verdict (bytes_of (packet_pieces s c p slot (o_is.parts.place i) cells)));
-    }
+module _ (s : List ℕ) (c : Setting) (p : Precinct) (slot at : ℕ) (raws : List ℕ) (cells : List ℤ) {o : Opened} (o_is : Opening s c p slot at raws o) where
+  decoded : {v : Verdict} {b : Bytes} {cells' : List ℤ} → (v, cells') ≡ counts_by s c p slot o.parts.at o.verdict cells
+      → b ≡ bytes_by v (bytes_of (packet_pieces s c p slot o.parts.at cells))
+      → Decoded s c p slot at raws cells (record { verdict = v; dr = o.dr; past = o.parts.past; bytes = b }) cells'
+  unfolding packet
+  decoded {v} e g =
+      record {
+        left = (λ i. counts_by s c p slot (sym o_is.parts.place i) (sym o_is.verdict i) cells) ∙ sym e;
+        dr = o_is.dr;
+        past = o_is.parts.past;
+        bytes = g ∙ (λ i. bytes_by v (bytes_of (packet_pieces s c p slot (o_is.parts.place i) cells)));
+      }
+
+  module _ {r : Result Bytes Check} {cells' : List ℤ} (h : IsPassed s c p slot o.parts.at o.verdict cells r cells') where
+    abbrev says : Verdict
+    says = (counts_by s c p slot o.parts.at o.verdict cells).0
+
+    abbrev whole : Bytes
+    whole = bytes_of (packet_pieces s c p slot o.parts.at cells)
+
+    pub decoded_read : {b : Bytes} → r ≡ Ok b → Decoded s c p slot at raws cells (record { verdict = Fine; dr = o.dr; past = o.parts.past; bytes = b }) cells'
+    decoded_read f =
+        let both = answered_ok says whole (sym h.read ∙ f) in
+        decoded (λ i. (sym both.0 i, h.left i)) (sym both.1)
+
+    pub decoded_refused : {k : Check} → r ≡ Err k → Decoded s c p slot at raws cells (record { verdict = Refused k; dr = o.dr; past = o.parts.past; bytes = nothing }) cells'
+    decoded_refused f =
+        let refused = answered_err says whole (sym h.read ∙ f) in
+        decoded (λ i. (sym refused i, h.left i)) refl

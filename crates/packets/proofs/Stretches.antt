@@ -1,38 +1,31 @@
 -- The subpackets' stretches and the tables of checks, as the code has them. Assumes nothing.
-use Rattle.counts.specs.declared.Counted.{Counted}
-use Rattle.std.specs.Prelude.{Ok, Err}
-use mathlib.Core.Path.{◌≡◌, refl, sym, ap, subst, ◌∙◌}
-use mathlib.Core.Bool.{Bool, true, false, cond, ◌||◌}
+use Rattle.std.specs.Prelude.{Result}
+use mathlib.Core.Path.{◌≡◌, refl, sym, ap, ◌∙◌}
+use mathlib.Core.Bool.{Bool, true, false, cond}
 use mathlib.Core.List.{List, [], ◌∷◌, ◌++◌}
 use Prim.Native.Nat.{ℕ, ◌+◌, ◌-◌, ◌^◌, ◌≤◌, ◌<◌}
 use native.Mathlib.Omega.{arith}
-use borrow.Author.Tests.{lt-ltb}
-use lib.Dec.{eqb, ltb}
+use lib.Dec.{eqb}
 use lib.IntN.{ℤ}
-use lib.Pow.{pow_pos}
 use Rattle.whole.specs.Numbers.{ceil_div}
-use Rattle.rows.specs.Rows.{check, ample, first, then, broken, Fine, Refused, Verdict}
-use Rattle.rows.specs.declared.Row.TheVariants.{Length, Count, Mode}
-use Rattle.rows.specs.declared.Field.TheVariants.{Packet, Dr, Significance, Counts, M, Ones, Data, Signs}
+use Rattle.rows.specs.Rows.{check, ample, first, then, broken, answered, Fine, Refused, Verdict}
+use Rattle.rows.specs.declared.Row.TheVariants.{Length, Mode}
+use Rattle.rows.specs.declared.Field.TheVariants.{Packet, Dr, Significance, Counts, Signs}
 use Rattle.rows.specs.declared.Check.{Check}
 use Rattle.rows.proofs.Tables.{held, append_fine, first_append}
 use Rattle.bits.specs.Packet.{header_bytes}
 use Rattle.bits.specs.declared.packet.PacketHeader.{PacketHeader}
 use Rattle.layout.specs.Slots.{candidates}
 use Rattle.counts.specs.Lines.{Line as LineCounts}
-use Rattle.counts.specs.declared.group.Fault.TheVariants.{Cut, High, Long}
-use Rattle.counts.specs.Lines.{Founded}
 use Rattle.values.specs.declared.Next.{Next}
 use Rattle.packets.specs.declared.Setting.{Setting}
 use Rattle.packets.specs.declared.Precinct.{Precinct}
 use Rattle.packets.specs.declared.Parts.{Parts}
-use Rattle.packets.specs.declared.Signed.{Signed}
-use Rattle.packets.specs.declared.Content.{Content}
 use Rattle.packets.specs.Precincts.{stretch}
 use Rattle.packets.specs.Passes.{marks, packet_counts, packet_values}
-use Rattle.packets.specs.Packets.{sign_length, flag_checks, head, Lsig, sig_at, cnt_at, dat_at, Lsign, data_bytes, sign_bytes, head_checks, count_checks, data_checks, after_values, values_by, counts_by, counts_of}
-use Rattle.packets.specs.Pieces.{count_content, data_content, sign_content}
-use Rattle.packets.specs.Steps.{Working, data_row, IsParts, bound_flag, reached, IsSigned, IsContent}
+use Rattle.packets.specs.Packets.{sign_length, flag_checks, head, Lsig, sig_at, cnt_at, dat_at, Lsign, head_checks, after_values, values_by, counts_of}
+use Rattle.packets.specs.Pieces.{sign_content}
+use Rattle.packets.specs.Steps.{Working, IsParts, bound_flag, signs_in, IsSigned}
 use Rattle.packets.proofs.LinePasses.{standing_still}
 
 pub signs_most : (c : Setting) (h : PacketHeader) → sign_length c h ≤ h.lsgn
@@ -45,26 +38,12 @@ signs_most c h = by c.fs refl
 pub working_still : {s : List ℕ} {c : Setting} {p : Precinct} {slot n k : ℕ} → Working s c p slot n → k ≡ n → Working s c p slot k
 working_still h e = record { within = h.within; standing = standing_still h.standing e }
 
-pub parts_own : {s : List ℕ} {c : Setting} {p : Precinct} {slot at : ℕ} {r : Parts} → IsParts s c p slot at r → IsParts s c p slot r.at r
-parts_own {s} {c} {p} {slot} {at} {r} h = subst (λ (n : ℕ). IsParts s c p slot n r) (sym h.place) h
-
 -- the header's checks behind the raw flag's
 abbrev pub behind_flag : List ℕ → Setting → Precinct → ℕ → ℕ → List Check
 behind_flag s c p slot at =
     check Length (sig_at s c p slot at) Significance (Lsig s c p slot at) 0 (p.end - sig_at s c p slot at)
     ∷ check Length (cnt_at s c p slot at) Counts (head s c p slot at).lcnt 0 (p.end - cnt_at s c p slot at)
     ∷ []
-
--- a check of a value that is too small, or too large, refuses
-too_small : (k : Check) → k.3 < k.4 → first (k ∷ []) ≡ Refused k
-too_small k h = rw (lt-ltb _ _ h)
-
-too_large : (k : Check) → k.5 < k.3 → first (k ∷ []) ≡ Refused k
-too_large k h = by (ltb k.3 k.4)
-  where
-    by : (b : Bool) → cond (b || ltb k.5 k.3) (Refused k) Fine ≡ Refused k
-    by true = refl
-    by false = rw (lt-ltb _ _ h)
 
 module _ (s : List ℕ) (c : Setting) (p : Precinct) (slot at : ℕ) where
   -- ---- the places
@@ -157,25 +136,6 @@ module _ (s : List ℕ) (c : Setting) (p : Precinct) (slot at : ℕ) where
     counts_are cells f =
         (λ i. packet_counts s c p slot (stretch s (sym is.cnt i) (sym long_cnt i)) (stretch s (sym is.sig i) (sym long_sig i)) (sym is.raw i) cells) ∙ f
 
-    -- ---- behind the counts
-
-    pub done_table : {line : LineCounts} {k : Counted} {bytes : ℕ} {v : Verdict} → line ≡ Ok k → bytes ≡ ceil_div k.need 2 → v ≡ first (data_row p parts bytes)
-        → v ≡ first (count_checks s c p slot at line ++ data_checks s c p slot at line)
-    done_table e b f =
-        let rest = ap (λ (n : ℕ). p.end - n) is.sgn in
-        f ∙ (λ i. first (
-        check Length (is.dat i) Data (long_dat i) 0 (p.end - is.dat i)
-        ∷ check Length (is.dat i) Data (long_dat i) (b i) ample
-        ∷ check Length (is.sgn i) Signs (long_sgn i) 0 (rest i)
-        ∷ []))
-        ∙ (λ i. first (count_checks s c p slot at (sym e i) ++ data_checks s c p slot at (sym e i)))
-
-    pub done_inside : {line : LineCounts} {k : Counted} {v : Verdict} → line ≡ Ok k → v ≡ first (count_checks s c p slot at line ++ data_checks s c p slot at line)
-        → parts.dat ≤ p.end → v ≡ Fine → parts.past ≤ p.end
-    done_inside {k = k} e f h g =
-        let t = held (data_checks s c p slot at (Ok k)) ((λ i. first (count_checks s c p slot at (sym e i) ++ data_checks s c p slot at (sym e i))) ∙ sym f ∙ g) in
-        omega (arith, t.0.most, t.1.1.0.most, is.dat, is.sgn, is.past)
-
     -- ---- the values
 
     pub values_are : (cells : List ℤ) {next : Next} {cells' : List ℤ} {used : ℕ} {v : Verdict}
@@ -190,67 +150,12 @@ module _ (s : List ℕ) (c : Setting) (p : Precinct) (slot at : ℕ) where
     pub signs_are : (cells : List ℤ) {next : Next} {cells' : List ℤ} {used : ℕ}
         → packet_values c p slot (stretch s parts.dat (parts.sgn - parts.dat)) (stretch s parts.sgn (parts.past - parts.sgn)) cells ≡ (next, cells')
         → used ≡ ceil_div next.sign 8
-        → used ≡ sign_content (packet_values c p slot (data_bytes s c p slot at) (sign_bytes s c p slot at) cells).0
+        → used ≡ signs_in s c p slot at cells
     signs_are cells f u =
         u ∙ (λ i. sign_content (sym f i).0)
         ∙ (λ i. sign_content (packet_values c p slot (stretch s (is.dat i) (long_dat i)) (stretch s (is.sgn i) (long_sgn i)) cells).0)
 
-  -- a refusal stands
-  values_stand : (cells : List ℤ) {v : Verdict} {k : Check} → v ≡ Refused k → values_by s c p slot at v cells ≡ (v, cells)
-  values_stand cells e = rw e
-
-  pub signs_stand : (cells : List ℤ) {v : Verdict} {k : Check} → v ≡ Refused k → IsSigned s c p slot at v cells (record { verdict = v; signs = 0 }) cells
-  signs_stand cells e = record { left = values_stand cells e; signs = rw e }
-
-  pub signs_told : (cells : List ℤ) {v : Verdict} {r : Signed} {cells' : List ℤ} → v ≡ Fine → IsSigned s c p slot at Fine cells r cells' → IsSigned s c p slot at v cells r cells'
-  signs_told cells {r = r} {cells' = cells'} e h = subst (λ (v : Verdict). IsSigned s c p slot at v cells r cells') (sym e) h
-
-  -- ---- the contents
-
-  -- of counts that are done
-  pub done_content : {line : LineCounts} {read : Counted} {k n : ℕ} {v : Verdict} {cells : List ℤ} {r : Signed} {cells' : List ℤ} → line ≡ Ok read
-      → v ≡ first (count_checks s c p slot at line ++ data_checks s c p slot at line) → k ≡ ceil_div read.next 8 → n ≡ ceil_div read.need 2 → IsSigned s c p slot at v cells r cells'
-      → IsContent s c p slot at (line, cells) (record { verdict = r.verdict; counts = k; «data» = n; signs = r.signs }) cells'
-  done_content {cells = cells} e f k n h =
-      record {
-        left = (λ i. values_by s c p slot at (sym f i) cells) ∙ h.left;
-        counts = k ∙ ap count_content (sym e);
-        «data» = n ∙ ap data_content (sym e);
-        signs = h.signs ∙ (λ i. reached (f i) (sign_content (packet_values c p slot (data_bytes s c p slot at) (sign_bytes s c p slot at) cells).0));
-      }
-
-  -- and of counts that are refused: none
-  module _ {parts : Parts} (is : IsParts s c p slot at parts) {line : LineCounts} {cells : List ℤ} {r : Content} (none : (r.counts ≡ 0) × (r.«data» ≡ 0) × (r.signs ≡ 0)) where
-    unread : {x : LineCounts} {k : Check} → line ≡ x → count_content x ≡ 0 → data_content x ≡ 0 → first (count_checks s c p slot at x ++ data_checks s c p slot at x) ≡ Refused k
-        → r.verdict ≡ Refused k → IsContent s c p slot at (line, cells) r cells
-    unread e n d f g =
-        let refused = (λ i. first (count_checks s c p slot at (e i) ++ data_checks s c p slot at (e i))) ∙ f in
-        record {
-          left = (λ i. values_by s c p slot at (refused i) cells) ∙ (λ i. (sym g i, cells));
-          counts = none.0 ∙ sym n ∙ ap count_content (sym e);
-          «data» = none.1 ∙ sym d ∙ ap data_content (sym e);
-          signs = none.2 ∙ rw refused refl;
-        }
-
-    pub cut_content : line ≡ Err Cut → r.verdict ≡ first (check Length parts.cnt Counts (parts.dat - parts.cnt) (parts.dat - parts.cnt + 1) ample ∷ [])
-        → IsContent s c p slot at (line, cells) r cells
-    cut_content e f =
-        let n = (head s c p slot at).lcnt in
-        let refused = too_small (check Length (cnt_at s c p slot at) Counts n (n + 1) ample) (omega arith) in
-        unread e refl refl refused (f ∙ (λ i. first (check Length (is.cnt i) Counts (long_cnt is i) (long_cnt is i + 1) ample ∷ [])) ∙ refused)
-
-    pub high_content : {m : ℕ} → line ≡ Err (High m) → Founded c.br line → r.verdict ≡ first (check Count parts.cnt M m 0 31 ∷ [])
-        → IsContent s c p slot at (line, cells) r cells
-    high_content {m} e h f =
-        let refused = too_large (check Count (cnt_at s c p slot at) M m 0 31) (subst (Founded c.br) e h) in
-        unread e refl refl refused (f ∙ (λ i. first (check Count (is.cnt i) M m 0 31 ∷ [])) ∙ refused)
-
-    pub long_content : {n : ℕ} → line ≡ Err (Long n) → Founded c.br line → r.verdict ≡ first (check Count parts.cnt Ones n 0 (2 ^ (c.br + 1) - 1) ∷ [])
-        → IsContent s c p slot at (line, cells) r cells
-    long_content {n} e h f =
-        let most : 2 ^ (c.br + 1) ≤ n = subst (Founded c.br) e h in
-        let refused = too_large (check Count (cnt_at s c p slot at) Ones n 0 (2 ^ (c.br + 1) - 1)) (omega (arith, most, pow_pos (c.br + 1))) in
-        unread e refl refl refused (f ∙ (λ i. first (check Count (is.cnt i) Ones n 0 (2 ^ (c.br + 1) - 1) ∷ [])) ∙ refused)
-
-  pub counts_stand : (cells : List ℤ) {v : Verdict} {k : Check} → v ≡ Refused k → counts_by s c p slot at v cells ≡ (v, cells)
-  counts_stand cells e = rw e
+  -- what is answered behind the row of the signs' length
+  pub signed : (cells : List ℤ) {v : Verdict} {used : ℕ} {r : Result ℕ Check} {cells' : List ℤ} → values_by s c p slot at Fine cells ≡ (v, cells')
+      → used ≡ signs_in s c p slot at cells → r ≡ answered v used → IsSigned s c p slot at cells r cells'
+  signed cells left signs e = record { read = e ∙ (λ i. answered (sym left i).0 (signs i)); left = λ i. (sym left i).1 }

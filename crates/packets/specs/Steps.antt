@@ -1,6 +1,6 @@
 -- What the steps of a packet ask and answer.
-use Rattle.std.specs.Prelude.{ℕ, ◌+◌, ◌*◌, ◌-◌, ◌^◌, ◌≤◌, ◌<◌, ◌≡◌, Bool, true, not, cond, ◌&&◌, List, [], ◌∷◌, ◌++◌, ℤ, length, get_or, leb, Ok, Err}
-use Rattle.rows.specs.Rows.{check, ample, first, Fine, Verdict}
+use Rattle.std.specs.Prelude.{ℕ, ◌+◌, ◌*◌, ◌-◌, ◌^◌, ◌≤◌, ◌<◌, ◌≡◌, Bool, true, not, cond, ◌&&◌, List, [], ◌∷◌, ℤ, length, get_or, leb, Result, Ok}
+use Rattle.rows.specs.Rows.{check, ample, first, answered, Fine, Verdict}
 use Rattle.rows.specs.declared.Check.{Check}
 use Rattle.rows.specs.declared.Row.TheVariants.{Length}
 use Rattle.rows.specs.declared.Field.TheVariants.{Data, Signs}
@@ -19,31 +19,12 @@ use Rattle.packets.specs.declared.Setting.{Setting}
 use Rattle.packets.specs.declared.Precinct.{Precinct}
 use Rattle.packets.specs.declared.Parts.{Parts}
 use Rattle.packets.specs.declared.Opened.{Opened}
-use Rattle.packets.specs.declared.Signed.{Signed}
 use Rattle.packets.specs.declared.Content.{Content}
-use Rattle.packets.specs.declared.Passed.{Passed}
 use Rattle.packets.specs.declared.Outcome.{Outcome}
 use Rattle.packets.specs.Precincts.{D, T}
 use Rattle.packets.specs.Ready.{Slotted, Standing}
 use Rattle.packets.specs.Passes.{marks, flags, coding_of, place_of, values_of, valued, packet_values}
-use Rattle.packets.specs.Packets.{
-  head,
-  raw,
-  sig_at,
-  cnt_at,
-  dat_at,
-  sgn_at,
-  past,
-  data_bytes,
-  sign_bytes,
-  head_checks,
-  count_checks,
-  data_checks,
-  values_by,
-  after_counts,
-  counts_by,
-  packet,
-}
+use Rattle.packets.specs.Packets.{head, raw, sig_at, cnt_at, dat_at, sgn_at, past, data_bytes, sign_bytes, head_checks, values_by, after_counts, counts_by, packet}
 use Rattle.packets.specs.Pieces.{count_content, data_content, sign_content, packet_pieces}
 
 -- ---- what is asked: a slot of a precinct with the stream, and with n cells
@@ -69,12 +50,12 @@ pub record Lies (s : Shape) (row : ℕ) (l : Line) : Type 0 where
   pub above : 0 < row → l.up ≤ l.cell
 
 -- the parts of a packet stand one after the other, and the contents of its subpackets fit in
-pub record Holds (r : Parts) (counts nibbles signs : ℕ) : Type 0 where
+pub record Holds (r : Parts) (k : Content) : Type 0 where
   pub sig : r.at ≤ r.sig
   pub cnt : r.sig ≤ r.cnt
-  pub dat : r.cnt + counts ≤ r.dat
-  pub sgn : r.dat + nibbles ≤ r.sgn
-  pub past : r.sgn + signs ≤ r.past
+  pub dat : r.cnt + k.counts ≤ r.dat
+  pub sgn : r.dat + k.«data» ≤ r.sgn
+  pub past : r.sgn + k.signs ≤ r.past
   pub small : r.past < 2 ^ 40
 
 -- ---- what is answered. Bounds follow from the values, and stand beside them for the callers' sums
@@ -96,17 +77,17 @@ pub record AllMarks (s : List ℕ) (c : Setting) (p : Precinct) (slot : ℕ) (ra
   pub small : r < 2 ^ 40
 
 -- where the bytes of a packet went, by its parts and the contents of its subpackets
-abbrev pub part_bytes : Parts → ℕ → ℕ → ℕ → Bytes
-part_bytes r counts nibbles signs =
+abbrev pub part_bytes : Parts → Content → Bytes
+part_bytes r k =
     record {
       markers = 0;
       precincts = 0;
       packets = r.sig - r.at;
       significance = r.cnt - r.sig;
-      counts = counts;
-      «data» = nibbles;
-      signs = signs;
-      filler = r.dat - r.cnt - counts + (r.sgn - r.dat - nibbles) + (r.past - r.sgn - signs);
+      counts = k.counts;
+      «data» = k.«data»;
+      signs = k.signs;
+      filler = r.dat - r.cnt - k.counts + (r.sgn - r.dat - k.«data») + (r.past - r.sgn - k.signs);
       spoilt = 0;
     }
 
@@ -134,11 +115,6 @@ count_line s c p cnt sig raw l at z cells = cond l.present (line_counts cnt sig 
 abbrev pub value_line : Setting → Precinct → List ℕ → List ℕ → Line → Next → List ℤ → Next × List ℤ
 value_line c p dat sgn l from cells = cond l.present (line_values dat sgn (values_of c) (valued c p l) from cells) (from, cells)
 
--- the content of a subpacket, by the verdict of what stands before it: none where the decoder does not come to it
-abbrev pub reached : Verdict → ℕ → ℕ
-reached (Ok _) content = content
-reached (Err k) content = 0
-
 module _ (s : List ℕ) (c : Setting) (p : Precinct) (slot at : ℕ) where
   pub record IsParts (r : Parts) : Type 0 where
     pub place : r.at ≡ at
@@ -157,24 +133,28 @@ module _ (s : List ℕ) (c : Setting) (p : Precinct) (slot at : ℕ) where
     pub parts : IsParts r.parts
     pub inside : r.verdict ≡ Fine → r.parts.dat ≤ p.end
 
-  -- the values, by the verdict of the counts and of the data's length
-  pub record IsSigned (v : Verdict) (cells : List ℤ) (r : Signed) (cells' : List ℤ) : Type 0 where
-    pub left : values_by s c p slot at v cells ≡ (r.verdict, cells')
-    pub signs : r.signs ≡ reached v (sign_content (packet_values c p slot (data_bytes s c p slot at) (sign_bytes s c p slot at) cells).0)
+  -- the bytes of the content of the signs, where the data and the signs are read over these cells
+  abbrev pub signs_in : List ℤ → ℕ
+  signs_in cells = sign_content (packet_values c p slot (data_bytes s c p slot at) (sign_bytes s c p slot at) cells).0
+
+  -- and the contents, by what the counts come to
+  abbrev pub contents_of : LineCounts × List ℤ → Content
+  contents_of x = record { counts = count_content x.0; «data» = data_content x.0; signs = signs_in x.1 }
+
+  -- the values
+  pub record IsSigned (cells : List ℤ) (r : Result ℕ Check) (cells' : List ℤ) : Type 0 where
+    pub read : r ≡ answered (values_by s c p slot at Fine cells).0 (signs_in cells)
+    pub left : cells' ≡ (values_by s c p slot at Fine cells).1
 
   -- what follows the counts
-  pub record IsContent (x : LineCounts × List ℤ) (r : Content) (cells' : List ℤ) : Type 0 where
-    pub left : after_counts s c p slot at x ≡ (r.verdict, cells')
-    pub counts : r.counts ≡ count_content x.0
-    pub «data» : r.«data» ≡ data_content x.0
-    pub signs : r.signs
-        ≡ reached (first (count_checks s c p slot at x.0 ++ data_checks s c p slot at x.0))
-        (sign_content (packet_values c p slot (data_bytes s c p slot at) (sign_bytes s c p slot at) x.1).0)
+  pub record IsContent (x : LineCounts × List ℤ) (r : Result Content Check) (cells' : List ℤ) : Type 0 where
+    pub read : r ≡ answered (after_counts s c p slot at x).0 (contents_of x)
+    pub left : cells' ≡ (after_counts s c p slot at x).1
 
   -- the counts and what follows them, by the verdict of the header
-  pub record IsPassed (v : Verdict) (cells : List ℤ) (r : Passed) (cells' : List ℤ) : Type 0 where
-    pub left : counts_by s c p slot at v cells ≡ (r.verdict, cells')
-    pub bytes : r.bytes ≡ bytes_by r.verdict (bytes_of (packet_pieces s c p slot at cells))
+  pub record IsPassed (v : Verdict) (cells : List ℤ) (r : Result Bytes Check) (cells' : List ℤ) : Type 0 where
+    pub read : r ≡ answered (counts_by s c p slot at v cells).0 (bytes_of (packet_pieces s c p slot at cells))
+    pub left : cells' ≡ (counts_by s c p slot at v cells).1
 
   -- a packet: what it leaves, its raw flag, the place behind it, and its bytes
   pub record Decoded (raws : List ℕ) (cells : List ℤ) (r : Outcome) (cells' : List ℤ) : Type 0 where

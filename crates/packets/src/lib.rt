@@ -12,7 +12,6 @@ ghost use Rattle.rows.specs.declared.Field.TheVariants.{Ones};
 ghost use Rattle.bits.specs.Packet.{IsHeader};
 ghost use Rattle.layout.specs.Slots.{slots, candidates};
 ghost use Rattle.counts.specs.Lines.{Founded};
-ghost use Rattle.pieces.specs.Pieces.{bytes_by};
 ghost use Rattle.packets.specs.Packets.{any_line, counts_of};
 ghost use Rattle.packets.specs.Ready.{Settled, Standing};
 ghost use Rattle.packets.specs.Steps.{
@@ -79,7 +78,7 @@ struct Parts {
     past: usize,
 }
 
-// A packet header that is read and judged.
+// A packet header that is read and judged. No Result: `packet` tells Dr and the place behind a refused packet too (Decoded), and takes them from here.
 #[derive(Clone, Copy)]
 struct Opened {
     verdict: Verdict,
@@ -87,30 +86,16 @@ struct Opened {
     parts: Parts,
 }
 
-// What the values leave beside the cells: the verdict, and the bytes that the content of the sign subpacket takes.
-#[derive(Clone, Copy)]
-struct Signed {
-    verdict: Verdict,
-    signs: usize,
-}
-
-// What the counts, the data and the signs leave: the verdict, and the bytes that the content of each takes, 0 where the decoder does not come to it.
+// The bytes that the content of the counts, of the data and of the signs takes.
 #[derive(Clone, Copy)]
 struct Content {
-    verdict: Verdict,
     counts: usize,
     data: usize,
     signs: usize,
 }
 
-// The same with the header and with filler: where the bytes of the packet went.
-#[derive(Clone, Copy)]
-struct Passed {
-    verdict: Verdict,
-    bytes: Bytes,
-}
-
 // What a packet leaves beside the cells: the verdict, its raw flag, the place behind it, and where its bytes went.
+// No Result: `packet` promises Dr and the place behind of a refused packet too (Decoded).
 #[derive(Clone, Copy)]
 pub struct Outcome {
     pub verdict: Verdict,
@@ -166,12 +151,12 @@ fn parts_of(s: &[u8], c: Setting, p: Precinct, slot: usize, at: usize, h: Packet
     let dat = cnt + h.lcnt;
     let sgn = dat + h.ldat;
     Parts {
-        at: at,
-        raw: raw,
-        sig: sig,
-        cnt: cnt,
-        dat: dat,
-        sgn: sgn,
+        at,
+        raw,
+        sig,
+        cnt,
+        dat,
+        sgn,
         past: sgn + sign_length(c.fs, h.lsgn),
     }
 }
@@ -201,14 +186,21 @@ fn open(s: &[u8], c: Setting, p: Precinct, slot: usize, at: usize, raws: [usize;
     Opened {
         verdict: v,
         dr: h.dr,
-        parts: parts,
+        parts,
     }
 }
 
-// The data and the signs, each from its own stretch, and then whether the signs' stretch was long enough.
-fn values(s: &[u8], cells: &mut [i64], c: Setting, p: Precinct, slot: usize, parts: Parts) -> Signed
+// The data and the signs, each from its own stretch, and then whether the signs' stretch was long enough: the bytes of the signs.
+fn values(
+    s: &[u8],
+    cells: &mut [i64],
+    c: Setting,
+    p: Precinct,
+    slot: usize,
+    parts: Parts,
+) -> Result<usize, Check>
     requires { Working s.now c p slot (length cells.old) × IsParts s.now c p slot parts.at parts × (parts.past ≤ length s.now) }
-    ensures { IsSigned s.now c p slot parts.at Fine cells.old result cells.new }
+    ensures { IsSigned s.now c p slot parts.at cells.old result cells.new }
 {
     let a = parts.dat;
     let b = parts.sgn;
@@ -217,31 +209,8 @@ fn values(s: &[u8], cells: &mut [i64], c: Setting, p: Precinct, slot: usize, par
     let sgn = &s[b..e];
     let next = passes::packet_values(dat, sgn, cells, c, p, slot);
     let used = bytes_of_bits(next.sign);
-    Signed {
-        verdict: rows::first(&[Check(Row::Length, b, Field::Signs, e - b, used, AMPLE)]),
-        signs: used,
-    }
-}
-
-fn values_by(
-    v: Verdict,
-    s: &[u8],
-    cells: &mut [i64],
-    c: Setting,
-    p: Precinct,
-    slot: usize,
-    parts: Parts,
-) -> Signed
-    requires { Working s.now c p slot (length cells.old) × IsParts s.now c p slot parts.at parts × (v ≡ Fine → parts.past ≤ length s.now) }
-    ensures { IsSigned s.now c p slot parts.at v cells.old result cells.new }
-{
-    match v {
-        Ok(()) => values(s, cells, c, p, slot, parts),
-        Err(_) => Signed {
-            verdict: v,
-            signs: 0,
-        },
-    }
+    rows::first(&[Check(Row::Length, b, Field::Signs, e - b, used, AMPLE)])?;
+    Ok(used)
 }
 
 // The length of the data, which hold `bytes` bytes, and that of the signs.
@@ -262,27 +231,15 @@ fn data_row(p: Precinct, parts: Parts, bytes: usize) -> Verdict
 }
 
 // So many 1-bits stand where a code of a count stood: one of them is too many.
-fn long_row(cnt: usize, n: usize, br: usize) -> Verdict
+fn long_code(cnt: usize, n: usize, br: usize) -> Check
     requires { br ≤ 5 }
-    ensures { result ≡ first (check Count cnt Ones n 0 (2 ^ (br + 1) - 1) ∷ []) }
+    ensures { result ≡ check Count cnt Ones n 0 (2 ^ (br + 1) - 1) }
 {
     let all: usize = 1 << (br + 1);
-    rows::first(&[Check(Row::Count, cnt, Field::Ones, n, 0, all - 1)])
+    Check(Row::Count, cnt, Field::Ones, n, 0, all - 1)
 }
 
-// Counts that are refused: no content.
-fn none(v: Verdict) -> Content
-    ensures { (result.verdict ≡ v) × (result.counts ≡ 0) × (result.«data» ≡ 0) × (result.signs ≡ 0) }
-{
-    Content {
-        verdict: v,
-        counts: 0,
-        data: 0,
-        signs: 0,
-    }
-}
-
-// What follows the counts: their own row, or the lengths of the data and of the signs, and then the values.
+// What follows the counts: the check that their fault breaks, or the lengths of the data and of the signs, and then the values.
 fn after_counts(
     line: Result<Counted, Fault>,
     s: &[u8],
@@ -291,7 +248,7 @@ fn after_counts(
     p: Precinct,
     slot: usize,
     parts: Parts,
-) -> Content
+) -> Result<Content, Check>
     requires { Working s.now c p slot (length cells.old) × IsParts s.now c p slot parts.at parts × (parts.dat ≤ p.end) × Founded c.br line }
     ensures { IsContent s.now c p slot parts.at (line, cells.old) result cells.new }
 {
@@ -300,30 +257,33 @@ fn after_counts(
     match line {
         Ok(Counted { next, need }) => {
             let bytes = bytes_of_nibbles(need);
-            let v = data_row(p, parts, bytes);
-            let k = values_by(v, s, cells, c, p, slot, parts);
-            let w = k.verdict;
-            Content {
-                verdict: w,
+            data_row(p, parts, bytes)?;
+            let signs = values(s, cells, c, p, slot, parts)?;
+            Ok(Content {
                 counts: bytes_of_bits(next),
                 data: bytes,
-                signs: k.signs,
-            }
+                signs,
+            })
         }
         Err(Fault::Cut) => {
             let size = dat - cnt;
-            none(rows::first(&[Check(Row::Length, cnt, Field::Counts, size, size + 1, AMPLE)]))
+            Err(Check(Row::Length, cnt, Field::Counts, size, size + 1, AMPLE))
         }
-        Err(Fault::High(m)) => none(rows::first(&[Check(Row::Count, cnt, Field::M, m, 0, 31)])),
-        Err(Fault::Long(n)) => none(long_row(cnt, n, c.br)),
+        Err(Fault::High(m)) => Err(Check(Row::Count, cnt, Field::M, m, 0, 31)),
+        Err(Fault::Long(n)) => Err(long_code(cnt, n, c.br)),
     }
 }
 
-// Where the bytes of a packet went whose subpackets have contents of so many bytes.
-fn bytes_of(parts: Parts, counts: usize, data: usize, signs: usize) -> Bytes
-    requires { Holds parts counts «data» signs }
-    ensures { result ≡ part_bytes parts counts «data» signs }
+// Where the bytes of a packet went whose subpackets have these contents.
+fn bytes_of(parts: Parts, content: Content) -> Bytes
+    requires { Holds parts content }
+    ensures { result ≡ part_bytes parts content }
 {
+    let Content {
+        counts,
+        data,
+        signs,
+    } = content;
     let fill = parts.dat - parts.cnt - counts;
     let behind = parts.sgn - parts.dat - data;
     Bytes {
@@ -336,17 +296,6 @@ fn bytes_of(parts: Parts, counts: usize, data: usize, signs: usize) -> Bytes
         signs: signs,
         filler: fill + behind + (parts.past - parts.sgn - signs),
         spoilt: 0,
-    }
-}
-
-// The same by the verdict of the packet: nothing where it is refused.
-fn bytes_by(v: Verdict, parts: Parts, counts: usize, data: usize, signs: usize) -> Bytes
-    requires { v ≡ Fine → Holds parts counts «data» signs }
-    ensures { result ≡ bytes_by v (part_bytes parts counts «data» signs) }
-{
-    match v {
-        Ok(()) => bytes_of(parts, counts, data, signs),
-        Err(_) => NOTHING,
     }
 }
 
@@ -370,7 +319,8 @@ fn counts_of(
     passes::packet_counts(s, cnt, sig, cells, c, p, slot, parts.raw)
 }
 
-fn counts_by(
+// The subpackets behind a header that is judged: where the bytes of the packet went.
+fn subpackets(
     v: Verdict,
     s: &[u8],
     cells: &mut [i64],
@@ -378,25 +328,14 @@ fn counts_by(
     p: Precinct,
     slot: usize,
     parts: Parts,
-) -> Passed
+) -> Result<Bytes, Check>
     requires { Working s.now c p slot (length cells.old) × IsParts s.now c p slot parts.at parts × (v ≡ Fine → parts.dat ≤ p.end) }
     ensures { IsPassed s.now c p slot parts.at v cells.old result cells.new }
 {
-    match v {
-        Ok(()) => {
-            let line = counts_of(s, cells, c, p, slot, parts);
-            let k = after_counts(line, s, cells, c, p, slot, parts);
-            let w = k.verdict;
-            Passed {
-                verdict: w,
-                bytes: bytes_by(w, parts, k.counts, k.data, k.signs),
-            }
-        }
-        Err(_) => Passed {
-            verdict: v,
-            bytes: NOTHING,
-        },
-    }
+    v?;
+    let line = counts_of(s, cells, c, p, slot, parts);
+    let content = after_counts(line, s, cells, c, p, slot, parts)?;
+    Ok(bytes_of(parts, content))
 }
 
 // The packet of a slot that has lines, whose header stands at `at`. `raws` are the raw flags of the slots before.
@@ -413,15 +352,19 @@ pub fn packet(
     ensures { Decoded s.now c p slot at raws cells.old result cells.new }
 {
     let o = open(s, c, p, slot, at, raws);
-    let v = o.verdict;
     let parts = o.parts;
-    let k = counts_by(v, s, cells, c, p, slot, parts);
-    let w = k.verdict;
-    let bytes = k.bytes;
-    Outcome {
-        verdict: w,
-        dr: o.dr,
-        past: parts.past,
-        bytes: bytes,
+    match subpackets(o.verdict, s, cells, c, p, slot, parts) {
+        Ok(bytes) => Outcome {
+            verdict: Ok(()),
+            dr: o.dr,
+            past: parts.past,
+            bytes,
+        },
+        Err(k) => Outcome {
+            verdict: Err(k),
+            dr: o.dr,
+            past: parts.past,
+            bytes: NOTHING,
+        },
     }
 }

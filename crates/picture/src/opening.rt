@@ -9,7 +9,7 @@ use crate::picture::{Picture, field_row};
 use crate::segment::{Segment, length_row, marker_row};
 use rows::{Field, Verdict};
 
-// The verdict on the first three segments, and the picture header.
+// The verdict on the first three segments, and the picture header. They stand side by side, since `IsOpening` says place and picture of a refused opening too.
 #[derive(Clone, Copy)]
 pub struct Opening {
     pub verdict: Verdict,

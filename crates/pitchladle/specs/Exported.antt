@@ -10,7 +10,7 @@ use Rattle.reader.specs.Page.{header_of, lent_verdict, work_by, page_of, Reads}
 use Rattle.reader.specs.Modes.{page_in, ReadsDamaged}
 use Rattle.reader.specs.Places.{lent_verdict_by, verdict_by, page_with, ReadsBy}
 use Rattle.reader.specs.declared.page.Page.{Page}
-use Rattle.reasons.specs.Why.{why_of}
+use Rattle.reasons.specs.Why.{told_of, why_of}
 use Rattle.reasons.specs.declared.Why.{Why}
 use Rattle.pitchladle.specs.declared.Reason.{Reason}
 
@@ -90,7 +90,7 @@ pub record Explained (s : List ℕ) (mode a : ℕ) (w : List ℤ) (m d : ℕ) (w
 
 -- of component i, 0 where there is none
 abbrev pub coarsest_for : Why → ℕ → List ℕ
-coarsest_for y i = get_or y.band i 0 ∷ get_or y.precinct i 0 ∷ get_or y.truncation i 0 ∷ []
+coarsest_for y i = (told_of y i).band ∷ (told_of y i).precinct ∷ (told_of y i).truncation ∷ []
 
 abbrev pub coarsest_cells : Why → List ℕ
 coarsest_cells y = (y.components ∷ []) ++ (coarsest_for y 0 ++ (coarsest_for y 1 ++ (coarsest_for y 2 ++ coarsest_for y 3)))

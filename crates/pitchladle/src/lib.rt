@@ -187,23 +187,21 @@ pub extern "C" fn pitchladle_why(
 fn coarsest_of(w: Why) -> [u64; 13]
     ensures { result ≡ coarsest_cells w }
 {
-    let b = w.band;
-    let p = w.precinct;
-    let t = w.truncation;
+    let c = w.coarsest;
     [
         w.components as u64,
-        b[0] as u64,
-        p[0] as u64,
-        t[0] as u64,
-        b[1] as u64,
-        p[1] as u64,
-        t[1] as u64,
-        b[2] as u64,
-        p[2] as u64,
-        t[2] as u64,
-        b[3] as u64,
-        p[3] as u64,
-        t[3] as u64,
+        c[0].band as u64,
+        c[0].precinct as u64,
+        c[0].truncation as u64,
+        c[1].band as u64,
+        c[1].precinct as u64,
+        c[1].truncation as u64,
+        c[2].band as u64,
+        c[2].precinct as u64,
+        c[2].truncation as u64,
+        c[3].band as u64,
+        c[3].precinct as u64,
+        c[3].truncation as u64,
     ]
 }
 

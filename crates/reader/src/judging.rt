@@ -12,7 +12,8 @@ use header::header::Header;
 use layout::lines::samples_before;
 use rows::Verdict;
 
-// What a reading finds before it shows anything: the verdict, the header, and the bands' largest T.
+// What a reading finds before it shows anything: the verdict, the header, and the bands' largest T. Side by side, since `Judges` says header and largest T of a
+// refused page too.
 #[derive(Clone, Copy)]
 pub struct Judged {
     pub verdict: Verdict,
@@ -32,7 +33,7 @@ fn judge_slices(damaged: bool, stream: &[u8], cells: &mut [i64], h: Header) -> J
     Judged {
         verdict: v,
         header: h,
-        tops: tops,
+        tops,
     }
 }
 

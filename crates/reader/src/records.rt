@@ -46,8 +46,8 @@ pub fn shown(h: Header, distance: [usize; 4], bytes: Bytes) -> Page
         width: [s0.w, s1.w, s2.w, s3.w],
         height: [s0.h, s1.h, s2.h, s3.h],
         precision: [s0.b, s1.b, s2.b, s3.b],
-        distance: distance,
-        bytes: bytes,
+        distance,
+        bytes,
     }
 }
 

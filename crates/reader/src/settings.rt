@@ -20,7 +20,7 @@ pub fn setting_of(h: Header) -> Setting
     let shape = shape_of(h);
     let modes = bits_of_modes(shape);
     Setting {
-        shape: shape,
+        shape,
         widths: Widths::of_picture(p.wf, p.nc, p.lh),
         br: p.br,
         fq: p.fq,
@@ -28,9 +28,9 @@ pub fn setting_of(h: Header) -> Setting
         fs: p.fs == 1,
         rm: p.rm == 1,
         rl: p.rl == 1,
-        gains: gains,
-        priorities: priorities,
-        modes: modes,
+        gains,
+        priorities,
+        modes,
         head: bytes_of_header(shape),
     }
 }

@@ -2,29 +2,35 @@
 use Rattle.std.specs.Prelude.{Ok, Err}
 use Prim.Native.Nat.{ℕ, ◌≤◌, ◌<◌}
 use mathlib.Core.Path.{◌≡◌, refl, sym, ap, subst, ◌∙◌}
-use mathlib.Core.Bool.{cond}
 use mathlib.Core.List.{List}
 use native.Mathlib.Omega.{arith}
 use borrow.Author.Tests.{lt-ltb}
-use lib.Dec.{ltb}
 use lib.IntN.{ℤ}
-use lib.ListN.{length, get_or}
+use lib.ListN.{length}
 use Rattle.whole.proofs.Lists.{listed_at}
 use Rattle.rows.specs.Rows.{Fine, Verdict}
 use Rattle.header.specs.declared.header.Header.{Header}
-use Rattle.distances.specs.Rule.{of_four}
 use Rattle.reader.specs.Settings.{setting_of}
 use Rattle.reader.specs.Decoding.{begun, decoded}
 use Rattle.reader.specs.Page.{header_of, verdict}
+use Rattle.reasons.specs.declared.Coarse.{Coarse}
 use Rattle.reasons.specs.declared.Why.{Why}
-use Rattle.reasons.specs.Coarsest.{largest_of, band_of, precinct_number, Coarsest}
-use Rattle.reasons.specs.Why.{why_read, why_by, Explains, NamesCoarsest}
+use Rattle.reasons.specs.Coarsest.{largest_of, band_of, precinct_number, nowhere, coarse_of, Coarsest}
+use Rattle.reasons.specs.Why.{why_read, why_by, told_of, Explains, NamesCoarsest}
 use Rattle.reasons.proofs.Choices.{coarsest_named}
 use Rattle.reasons.proofs.Tops.{read_precinct}
 use Rattle.reasons.proofs.Telling.{AllFine, all_fine}
 
-four_at : (nc : ℕ) (f : ℕ → ℕ) (i : ℕ) → nc ≤ 4 → i < nc → get_or (of_four nc f) i 0 ≡ f i
-four_at nc f i few l = listed_at 4 (λ i. cond (ltb i nc) (f i) 0) 0 i (omega arith) ∙ rw (lt-ltb i nc l)
+-- what is told of a component that the page has
+told_at : (s : List ℕ) (h : Header) (i : ℕ) → h.picture.nc ≤ 4 → i < h.picture.nc
+    → told_of (why_read s h) i
+    ≡ record {
+      band = band_of s (setting_of h) h.slice i;
+      precinct = precinct_number s (setting_of h) h.slice i;
+      truncation = largest_of s (setting_of h) h.slice i;
+    }
+told_at s h i few l =
+    listed_at 4 (coarse_of s (setting_of h) h.slice) nowhere i (omega arith) ∙ rw (lt-ltb i h.picture.nc l) refl
 
 -- the record holds the verdict, whichever it is
 verdict_told : (v : Verdict) (s : List ℕ) (h : Header) → (why_by v s h).verdict ≡ v
@@ -40,11 +46,7 @@ read_named s a w q =
     record {
       components = refl;
       coarsest = λ i l.
-          let at : (f : ℕ → ℕ) → get_or (of_four h.picture.nc f) i 0 ≡ f i = λ f. four_at h.picture.nc f i built.few l in
-          let b = at (band_of s (setting_of h) h.slice) in
-          let p = at (precinct_number s (setting_of h) h.slice) in
-          let t = at (largest_of s (setting_of h) h.slice) in
-          subst (λ (x : ℕ × ℕ × ℕ). Coarsest s (setting_of h) h.slice i x.0 x.1 x.2) (λ j. (sym b j, sym p j, sym t j))
+          subst (λ (x : Coarse). Coarsest s (setting_of h) h.slice i x.band x.precinct x.truncation) (sym (told_at s h i built.few l))
           (coarsest_named s (setting_of h) built h.slice i l);
       precincts = read_precinct s (setting_of h) built (begun h) q.slices;
     }

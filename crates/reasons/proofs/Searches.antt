@@ -15,9 +15,9 @@ use Rattle.layout.specs.Precincts.{largest}
 use Rattle.layout.proofs.Columns.{largest_same}
 use Rattle.packets.specs.declared.Setting.{Setting}
 use Rattle.loops.specs.Lowest.{lowest, some}
-use Rattle.reasons.specs.Coarsest.{all, held_by, truncation_of, largest_in, largest_of, has_largest, band_of, precinct_number}
-use Rattle.reasons.specs.declared.search.Coarse.{Coarse}
-use Rattle.reasons.specs.Steps.{Searched, coarse_of}
+use Rattle.reasons.specs.Coarsest.{all, held_by, truncation_of, largest_in, largest_of, has_largest, band_of, precinct_number, coarse_of}
+use Rattle.reasons.specs.declared.Coarse.{Coarse}
+use Rattle.reasons.specs.Steps.{Searched}
 use Rattle.loops.proofs.Lowest.{lowest_passes, passes_above, some_below, lowest_narrow}
 use Rattle.slices.proofs.PrecinctCoefficients.{both_true}
 use Rattle.reasons.proofs.Choices.{both, test_has, in_band, in_component, band_has, band_below, band_some, chosen, low_below, low_component, low_has}

@@ -1,6 +1,6 @@
 -- Document 02, C-19: where an accepted page is coarsest. 'For an accepted page it names, per component before any colour transform, the lowest band that holds the
 -- largest T and in it the lowest such precinct.'
-use Rattle.std.specs.Prelude.{ℕ, ◌*◌, ◌/◌, ◌%◌, ◌≤◌, ◌<◌, ◌≡◌, Bool, true, cond, ◌&&◌, List, eqb}
+use Rattle.std.specs.Prelude.{ℕ, ◌*◌, ◌/◌, ◌%◌, ◌≤◌, ◌<◌, ◌≡◌, Bool, true, cond, ◌&&◌, List, eqb, ltb}
 use Rattle.layout.specs.declared.Shape.{Shape}
 use Rattle.layout.specs.Bands.{NL, band_exists}
 use Rattle.layout.specs.Precincts.{largest, Npx, Npy}
@@ -10,6 +10,7 @@ use Rattle.packets.specs.Precincts.{T}
 use Rattle.slices.specs.Precinct.{holds}
 use Rattle.slices.specs.Walk.{walk_has}
 use Rattle.loops.specs.Lowest.{lowest, some}
+use Rattle.reasons.specs.declared.Coarse.{Coarse}
 
 -- B.11: the precincts of a slice that has all its rows, and all precincts of a page
 abbrev pub per_slice : Shape → ℕ
@@ -17,6 +18,10 @@ per_slice s = Npx s * s.hsl
 
 abbrev pub all : Shape → ℕ
 all s = Npx s * Npy s
+
+-- what stands in the place of a component that the page has not
+abbrev pub nowhere : Coarse
+nowhere = record { band = 0; precinct = 0; truncation = 0 }
 
 -- of a stream s, whose first slice header stands at `at`
 module _ (s : List ℕ) (c : Setting) (at : ℕ) where
@@ -49,6 +54,15 @@ module _ (s : List ℕ) (c : Setting) (at : ℕ) where
 
   unfoldable pub precinct_number : ℕ → ℕ
   precinct_number i = lowest (has_largest i (band_of i)) (all c.shape)
+
+  -- where component i is coarsest, all 0 where there is none
+  abbrev pub coarse_of : ℕ → Coarse
+  coarse_of i =
+      record {
+        band = cond (ltb i c.shape.nc) (band_of i) 0;
+        precinct = cond (ltb i c.shape.nc) (precinct_number i) 0;
+        truncation = cond (ltb i c.shape.nc) (largest_of i) 0;
+      }
 
   -- ---- the same as a statement of a component i, its band b, precinct p and truncation position t, without any search
   pub record Coarsest (i b p t : ℕ) : Type 0 where

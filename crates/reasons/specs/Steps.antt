@@ -1,5 +1,5 @@
--- What the steps of the search ask and answer.
-use Rattle.std.specs.Prelude.{ℕ, ◌^◌, ◌<◌, ◌≡◌, cond, List, ltb, length, get_or}
+-- What the steps of the search ask.
+use Rattle.std.specs.Prelude.{ℕ, ◌^◌, ◌<◌, ◌≡◌, List, length, get_or}
 use Rattle.rows.specs.Rows.{Fine}
 use Rattle.layout.specs.Bands.{NL}
 use Rattle.header.specs.declared.header.Header.{Header}
@@ -8,10 +8,7 @@ use Rattle.packets.specs.Ready.{Settled}
 use Rattle.slices.specs.Walk.{walk_stream}
 use Rattle.reader.specs.Decoding.{decoded_verdict, tops}
 use Rattle.reader.specs.Steps.{Opened}
-use Rattle.reasons.specs.declared.search.Coarse.{Coarse}
-use Rattle.reasons.specs.Coarsest.{largest_in, largest_of, band_of, precinct_number}
-
--- ---- what is asked
+use Rattle.reasons.specs.Coarsest.{largest_in}
 
 -- a header that is accepted, slices that are, and the largest T of each band that they leave
 pub record Told (s : List ℕ) (h : Header) (left : List ℕ) : Type 0 where
@@ -29,14 +26,3 @@ pub record Walked (s : List ℕ) (c : Setting) (at : ℕ) : Type 0 where
 pub record Searched (s : List ℕ) (c : Setting) (at : ℕ) (left : List ℕ) : Type 0 where
   pub walks : Walked s c at
   pub largest : (b : ℕ) → b < NL c.shape → get_or left b 0 ≡ largest_in s c at b
-
--- ---- what is answered
-
--- where component i is coarsest, all 0 where there is none
-abbrev pub coarse_of : List ℕ → Setting → ℕ → ℕ → Coarse
-coarse_of s c at i =
-    record {
-      band = cond (ltb i c.shape.nc) (band_of s c at i) 0;
-      precinct = cond (ltb i c.shape.nc) (precinct_number s c at i) 0;
-      truncation = cond (ltb i c.shape.nc) (largest_of s c at i) 0;
-    }

@@ -8,22 +8,28 @@ ghost use Rattle.rows.specs.Rows.{Fine};
 ghost use Rattle.reasons.specs.Why.{why_read, why_refused, why_by, Explains};
 ghost use Rattle.reasons.specs.Steps.{Told};
 
-use crate::search::coarsest_of;
+use crate::search::{coarsest_of, nowhere};
 use header::header::Header;
 use reader::judging::judge;
 use reader::settings::setting_of;
 use rows::Verdict;
 
-// Why a page is refused: the verdict with the check that decided, and its place. Of a page that is read instead, for each component as it is coded: the lowest
-// band with the component's largest T, the lowest precinct that holds the band with that T, and the T. All else is 0.
+// Where a component, as it is coded, is coarsest: the lowest band with its largest T, the lowest precinct that holds the band with that T, and the T.
+#[derive(Clone, Copy)]
+pub struct Coarse {
+    pub band: usize,
+    pub precinct: usize,
+    pub truncation: usize,
+}
+
+// Why a page is refused: the verdict with the check that decided, and its place. Of a page that is read instead, where each component is coarsest. All else is 0.
+// One record for both, since C is given it so (`Explains`, `coarsest_cells`).
 #[derive(Clone, Copy)]
 pub struct Why {
     pub verdict: Verdict,
     pub place: usize,
     pub components: usize,
-    pub band: [usize; 4],
-    pub precinct: [usize; 4],
-    pub truncation: [usize; 4],
+    pub coarsest: [Coarse; 4],
 }
 
 // Of a page that is read, where `tops` has the largest T of each band.
@@ -42,9 +48,7 @@ fn read_why(stream: &[u8], h: Header, tops: [usize; 40]) -> Why
         verdict: Ok(()),
         place: p.lcod,
         components: p.nc,
-        band: [c0.band, c1.band, c2.band, c3.band],
-        precinct: [c0.precinct, c1.precinct, c2.precinct, c3.precinct],
-        truncation: [c0.truncation, c1.truncation, c2.truncation, c3.truncation],
+        coarsest: [c0, c1, c2, c3],
     }
 }
 
@@ -56,9 +60,7 @@ fn refused_why(v: Verdict) -> Why
         verdict: v,
         place: rows::place(v, 0),
         components: 0,
-        band: [0; 4],
-        precinct: [0; 4],
-        truncation: [0; 4],
+        coarsest: [nowhere(); 4],
     }
 }
 

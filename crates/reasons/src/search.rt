@@ -8,9 +8,10 @@ ghost use Rattle.packets.specs.Ready.{Settled};
 ghost use Rattle.slices.specs.Precinct.{holds};
 ghost use Rattle.slices.specs.Slice.{slice_header_bytes};
 ghost use Rattle.loops.specs.Lowest.{lowest};
-ghost use Rattle.reasons.specs.Coarsest.{per_slice, all, held_by, truncation_of};
-ghost use Rattle.reasons.specs.Steps.{Walked, Searched, coarse_of};
+ghost use Rattle.reasons.specs.Coarsest.{per_slice, all, held_by, truncation_of, nowhere, coarse_of};
+ghost use Rattle.reasons.specs.Steps.{Walked, Searched};
 
+use crate::Coarse;
 use layout::Shape;
 use layout::headers::band_count;
 use layout::lines::has_lines;
@@ -18,14 +19,6 @@ use layout::precincts::{precinct_columns, precinct_rows};
 use packets::bands::truncation_of;
 use packets::{Precinct, Setting};
 use slices::precincts::precinct_in;
-
-// Where a component is coarsest, and how coarse it is there.
-#[derive(Clone, Copy)]
-pub struct Coarse {
-    pub band: usize,
-    pub precinct: usize,
-    pub truncation: usize,
-}
 
 // A band's largest T where the band is of component i, and else 0.
 fn own_top(nc: usize, i: usize, b: usize, top: usize) -> usize
@@ -118,6 +111,17 @@ fn lowest_precinct(s: &[u8], c: Setting, at: usize, b: usize, top: usize) -> usi
     count
 }
 
+// Of a component that the page has not.
+pub fn nowhere() -> Coarse
+    ensures { result ≡ nowhere }
+{
+    Coarse {
+        band: 0,
+        precinct: 0,
+        truncation: 0,
+    }
+}
+
 // Of component i, all 0 where there is none. `tops` has the largest T of each band.
 pub fn coarsest_of(s: &[u8], c: Setting, at: usize, tops: [usize; 40], i: usize) -> Coarse
     requires { Searched s.now c at tops }
@@ -136,10 +140,6 @@ pub fn coarsest_of(s: &[u8], c: Setting, at: usize, tops: [usize; 40], i: usize)
             truncation: top,
         }
     } else {
-        Coarse {
-            band: 0,
-            precinct: 0,
-            truncation: 0,
-        }
+        nowhere()
     }
 }

@@ -14,5 +14,5 @@ pub fn ceil(a: usize, b: usize) -> usize
     requires { a + b < 2 ^ 64 }
     ensures { result ≡ ceil_div a b }
 {
-    if b == 0 { 0 } else { (a + (b - 1)) / b }
+    if b == 0 { 0 } else { a.div_ceil(b) }
 }

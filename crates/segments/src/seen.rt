@@ -1,5 +1,5 @@
 // The segments that were accepted, each by its marker's place: 0 where there is none, since the start of the codestream stands there. Of bench captions nothing
-// is kept but that there is one.
+// is kept but that there is one. No Option: the definitions of specs/Segments go on with 0 where a table is missing, and are judged by an earlier check.
 ghost use Rattle.std.specs.Prelude.{◌≡◌};
 ghost use Rattle.segments.specs.Segments.{none_seen, counted};
 

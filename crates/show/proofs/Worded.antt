@@ -8,12 +8,13 @@ use Rattle.rows.specs.declared.Field.TheVariants.{Bw, Next, Tcom, Work, Precinct
 use Rattle.rows.specs.declared.Row.TheVariants.{Cut, Marker, Value, Lent, Length}
 use Rattle.fields.specs.Letters.{ascii}
 use Rattle.reasons.specs.declared.Why.{Why}
+use Rattle.reasons.specs.Coarsest.{nowhere}
 use Rattle.show.specs.Text.{digits_of}
 use Rattle.show.specs.Why.{coarsest_lines, why_text}
 
 abbrev refused_by : Check → Why
 refused_by c =
-    record { verdict = Refused c; place = place_of (Refused c) 0; components = 0; band = replicate 4 0; precinct = replicate 4 0; truncation = replicate 4 0 }
+    record { verdict = Refused c; place = place_of (Refused c) 0; components = 0; coarsest = replicate 4 nowhere }
 
 -- the request's example
 too_long : why_text (refused_by (check Length 4100 Precinct 912 0 512)) ≡ ascii "answer 6 at 4100\nfield whole precinct in bytes\nfound 912\nexpected 0 to 512\n"
@@ -55,9 +56,7 @@ coarse : why_text
       verdict = Fine;
       place = 1045;
       components = 2;
-      band = 0 ∷ 7 ∷ 0 ∷ 0 ∷ [];
-      precinct = 12 ∷ 0 ∷ 0 ∷ 0 ∷ [];
-      truncation = 5 ∷ 0 ∷ 0 ∷ 0 ∷ [];
+      coarsest = record { band = 0; precinct = 12; truncation = 5 } ∷ record { band = 7; precinct = 0; truncation = 0 } ∷ nowhere ∷ nowhere ∷ [];
     })
     ≡ ascii "answer 0 at 1045\ncomponent 0 band 0 precinct 12 truncation 5\ncomponent 1 band 7 precinct 0 truncation 0\n"
 unfolding why_text coarsest_lines digits_of

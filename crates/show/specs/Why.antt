@@ -1,6 +1,6 @@
 -- Request C-19's text, line by line: of a refused page the field whose rule is broken, what was found there and what is expected; of one that is read, where each
 -- component is coarsest.
-use Rattle.std.specs.Prelude.{Bool, cond, List, [], ◌++◌, ℕ, zero, suc, ltb, eqb, get_or, Ok, Err}
+use Rattle.std.specs.Prelude.{Bool, cond, List, [], ◌++◌, ℕ, zero, suc, ltb, eqb, Ok, Err}
 use Rattle.io.specs.Digits.{last_digits}
 use Rattle.rows.specs.Rows.{answer, ample, Verdict}
 use Rattle.rows.specs.declared.Check.{Check}
@@ -10,6 +10,7 @@ use Rattle.rows.specs.declared.Row.TheVariants.{Cut, Marker, Value, Lacking, Len
 use Rattle.fields.specs.Letters.{ascii}
 use Rattle.fields.specs.Names.{name_of, codes}
 use Rattle.reasons.specs.declared.Why.{Why}
+use Rattle.reasons.specs.Why.{told_of}
 use Rattle.show.specs.Text.{decimal, field, line, answer_line}
 use Rattle.show.specs.declared.why.Tells.{Tells}
 use Rattle.show.specs.declared.why.Tells.TheVariants.{Bytes, Cells, Values}
@@ -76,8 +77,8 @@ module _ (w : Why) where
   abbrev pub coarsest_line : ℕ → List ℕ
   coarsest_line i =
       field (ascii "component ") i
-      ++ (field (ascii " band ") (get_or w.band i 0)
-      ++ (field (ascii " precinct ") (get_or w.precinct i 0) ++ line (ascii " truncation ") (get_or w.truncation i 0)))
+      ++ (field (ascii " band ") (told_of w i).band
+      ++ (field (ascii " precinct ") (told_of w i).precinct ++ line (ascii " truncation ") (told_of w i).truncation))
 
   -- of component i, where the page has it
   abbrev pub coarsest_of : ℕ → List ℕ

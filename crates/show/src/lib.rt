@@ -125,7 +125,7 @@ fn put_row(out: &mut [u8], from: usize, plane: Plane, next: usize, width: usize)
     put_byte(out, at, b'\n')
 }
 
-// How far the text and the plane are used up.
+// How far the text and the plane are used up: two places that move together, and no cursor over one of them.
 #[derive(Clone, Copy)]
 struct Progress {
     at: usize,

@@ -135,10 +135,11 @@ fn put_coarsest_line(out: &mut [u8], at: usize, w: Why, i: usize) -> usize
     requires { i < 4 }
     ensures { Put (coarsest_line w i) at out.old result out.new }
 {
+    let there = w.coarsest[i];
     let a = put_field(out, at, b"component ", i as u64);
-    let b = put_field(out, a, b" band ", w.band[i] as u64);
-    let c = put_field(out, b, b" precinct ", w.precinct[i] as u64);
-    put_line(out, c, b" truncation ", w.truncation[i] as u64)
+    let b = put_field(out, a, b" band ", there.band as u64);
+    let c = put_field(out, b, b" precinct ", there.precinct as u64);
+    put_line(out, c, b" truncation ", there.truncation as u64)
 }
 
 // The same, where the page has so many components.

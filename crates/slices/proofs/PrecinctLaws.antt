@@ -1,7 +1,7 @@
 -- What the steps of a precinct rest on: tables whose checks hold, the modes of its header, the turn of a slot. Assumes nothing.
-use Rattle.std.specs.Prelude.{Ok, Err}
+use Rattle.std.specs.Prelude.{Result, Ok, Err}
 use Prim.Native.Nat.{ℕ, zero, suc, ◌+◌, ◌*◌, ◌-◌, ◌/◌, ◌%◌, ◌≤◌, ◌<◌}
-use mathlib.Core.Path.{◌≡◌, refl, sym, ◌∙◌}
+use mathlib.Core.Path.{◌≡◌, refl, sym, subst, ◌∙◌}
 use mathlib.Core.Bool.{Bool, true, false, not, cond}
 use mathlib.Core.List.{List, [], ◌∷◌}
 use native.Mathlib.Numerals.{add-one}
@@ -16,6 +16,7 @@ use Rattle.rows.specs.declared.Row.TheVariants.{Mode, Length}
 use Rattle.rows.specs.declared.Field.TheVariants.{D as ModeField, Rest}
 use Rattle.rows.proofs.Tables.{first_append, append_fine, each_fine, held}
 use Rattle.bits.specs.Fields.{field}
+use Rattle.pieces.specs.declared.Bytes.{Bytes}
 use Rattle.layout.specs.declared.Shape.{Shape}
 use Rattle.layout.specs.Bands.{NL, band_exists}
 use Rattle.layout.specs.Headers.{mode_bit, header_bytes_of}
@@ -28,7 +29,7 @@ use Rattle.packets.specs.Ready.{Settled, Standing}
 use Rattle.packets.specs.Packets.{any_line, head, past, packet}
 use Rattle.slices.specs.declared.precincts.Flags.{Flags}
 use Rattle.slices.specs.Precinct.{precinct_at, lprc, field_checks, mode_checks, header_checks, packed, packet_turn, rest_checks, packets_by, precinct, raised_by, raised}
-use Rattle.slices.specs.Steps.{Lent, Placed, IsPrecinct, onward, Passed}
+use Rattle.slices.specs.Steps.{Lent, Placed, IsPrecinct, onward, Passed, IsPacked}
 
 -- ---- tables whose checks all hold
 
@@ -96,37 +97,39 @@ ends_at x = λ i. (x.is i).end
 
 -- ---- the packets
 
-module _ (s : List ℕ) (c : Setting) (row column place slot at : ℕ) (raws : List ℕ) (cells : List ℤ) {p : Precinct} (e : IsPrecinct s c row column place p) where
-  packed_is : (v : Verdict) (cells' : List ℤ) → packed s c row column place slot at raws (v, cells')
-      ≡ onward v (past s c (precinct_at s c row column place) slot at) (set raws slot (head s c (precinct_at s c row column place) slot at).dr) cells'
-  packed_is (Ok _) cells' = refl
-  packed_is (Err k) cells' = refl
+pub settled : {A : Type 0} {left : Verdict × A} {v w : Verdict} {rest : A} → left ≡ (w, rest) → v ≡ w → ◌≡◌ {A = Verdict × A} left (v, rest)
+settled {rest = rest} e f = e ∙ (λ i. (sym f i, rest))
 
-  -- the turn of a slot with a packet, from what the packet's decoder answers; and that of a slot without
-  pub packet_there : {v : Verdict} {dr next : ℕ} {cells' : List ℤ} → any_line c p slot (candidates c.shape slot) ≡ true
-      → packet s c p slot at raws cells ≡ (v, cells') → dr ≡ (head s c p slot at).dr → next ≡ past s c p slot at
-      → packet_turn s c row column place slot (at, raws, cells) ≡ onward v next (set raws slot dr) cells'
+module _ (s : List ℕ) (c : Setting) (row column place slot at : ℕ) (raws : List ℕ) (cells : List ℤ) {p : Precinct} (e : IsPrecinct s c row column place p) where
+  -- the turn of a slot with a packet, by what the packet's decoder says, and where that accepts it; and that of a slot without
+  pub packet_there : {v w : Verdict} {cells' : List ℤ} → any_line c p slot (candidates c.shape slot) ≡ true → packet s c p slot at raws cells ≡ (v, cells') → v ≡ w
+      → packet_turn s c row column place slot (at, raws, cells) ≡ packed s c row column place slot at raws (w, cells')
   unfolding packet_turn
-  packet_there {v} {dr} {next} {cells'} any left flag behind =
+  packet_there any left says =
       rw ((λ i. any_line c (sym e.is i) slot (candidates c.shape slot)) ∙ any)
-      ((λ i. packed s c row column place slot at raws (((λ j. packet s c (sym e.is j) slot at raws cells) ∙ left) i))
-      ∙ packed_is v cells'
-      ∙ (λ i. onward v (((λ j. past s c (sym e.is j) slot at) ∙ sym behind) i) (set raws slot (sym flag i)) cells'))
+      (λ i. packed s c row column place slot at raws (((λ j. packet s c (sym e.is j) slot at raws cells) ∙ settled left (sym says)) i))
+
+  pub packet_goes : {v : Verdict} {dr next : ℕ} {cells' : List ℤ} → any_line c p slot (candidates c.shape slot) ≡ true → packet s c p slot at raws cells ≡ (v, cells') → v ≡ Fine
+      → dr ≡ (head s c p slot at).dr → next ≡ past s c p slot at → packet_turn s c row column place slot (at, raws, cells) ≡ go (next, set raws slot dr, cells')
+  packet_goes {cells' = cells'} any left fine flag behind =
+      packet_there any left fine
+      ∙ (λ i. go (((λ j. past s c (sym e.is j) slot at) ∙ sym behind) i, set raws slot (((λ j. (head s c (sym e.is j) slot at).dr) ∙ sym flag) i), cells'))
 
   pub packet_absent : any_line c p slot (candidates c.shape slot) ≡ false → packet_turn s c row column place slot (at, raws, cells) ≡ go (at, raws, cells)
   unfolding packet_turn
   packet_absent none = rw ((λ i. any_line c (sym e.is i) slot (candidates c.shape slot)) ∙ none)
 
 -- a slot that refuses stops the packets, and one that does not goes on
-module _ {s : List ℕ} {c : Setting} {p : Precinct} {slot at : ℕ} {raws : List ℕ} {cells cells' : List ℤ} {f : Flags} (x : Passed s c p slot at raws cells f cells') where
-  pub passed_stops : {k : Check} → f.verdict ≡ Refused k → packet_turn s c p.row p.column p.at slot (at, raws, cells) ≡ stop (Refused k, cells')
-  passed_stops v = x.turn ∙ (λ i. onward (v i) f.at f.raws cells')
+module _ {s : List ℕ} {c : Setting} {p : Precinct} {slot at : ℕ} {raws : List ℕ} {cells cells' : List ℤ} {r : Result Flags Check} where
+  pub refused_slot : {k : Check} → packet_turn s c p.row p.column p.at slot (at, raws, cells) ≡ stop (Refused k, cells') → r ≡ Err k → Passed s c p slot at raws cells r cells'
+  refused_slot turn e = rw e (record { turn = turn; inside = tt; bytes = tt })
 
-  pub passed_goes : f.verdict ≡ Fine → packet_turn s c p.row p.column p.at slot (at, raws, cells) ≡ go (f.at, f.raws, cells')
-  passed_goes v = x.turn ∙ (λ i. onward (v i) f.at f.raws cells')
+  module _ (x : Passed s c p slot at raws cells r cells') where
+    pub passed_stops : {k : Check} → r ≡ Err k → packet_turn s c p.row p.column p.at slot (at, raws, cells) ≡ stop (Refused k, cells')
+    passed_stops e = x.turn ∙ (λ i. onward (e i) cells')
 
-pub settled : {A : Type 0} {left : Verdict × A} {v w : Verdict} {rest : A} → left ≡ (w, rest) → v ≡ w → ◌≡◌ {A = Verdict × A} left (v, rest)
-settled {rest = rest} e f = e ∙ (λ i. (sym f i, rest))
+    pub passed_goes : {f : Flags} → r ≡ Ok f → Passed s c p slot at raws cells (Ok f) cells'
+    passed_goes e = subst (λ r. Passed s c p slot at raws cells r cells') e x
 
 -- bytes left, counted from the precinct's own end
 pub rest_is : {s : List ℕ} {c : Setting} {row column at : ℕ} {p : Precinct} (place : ℕ) → IsPrecinct s c row column at p
@@ -134,6 +137,11 @@ pub rest_is : {s : List ℕ} {c : Setting} {row column at : ℕ} {p : Precinct} 
 rest_is {at = at} place x = λ i. first (check Length at Rest ((x.is i).end - place) 0 0 ∷ [])
 
 -- ---- a precinct
+
+-- a precinct that is refused has no bytes
+pub refused_precinct : {s : List ℕ} {c : Setting} {p : Precinct} {left : Verdict × List ℤ} {cells cells' : List ℤ} {r : Result Bytes Check} {k : Check}
+    → left ≡ (Refused k, cells') → r ≡ Err k → IsPacked s c p left cells r cells'
+refused_precinct is e = rw e (record { is = is; bytes = tt })
 
 -- a precinct's own row, column and place are those at which it was read
 pub own : {s : List ℕ} {c : Setting} {row column at : ℕ} {p : Precinct} → IsPrecinct s c row column at p → IsPrecinct s c p.row p.column p.at p

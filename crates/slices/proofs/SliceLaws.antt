@@ -1,5 +1,6 @@
 -- What the steps of a slice and of the stream rest on. Assumes nothing.
-use Rattle.std.specs.Prelude.{Ok, Err}
+use Rattle.std.specs.Prelude.{⊤, Result, Ok, Err}
+use Rattle.std.proofs.lemmas.Result.{MatchResult-at_ok as if_ok}
 use Prim.Native.Nat.{ℕ, suc, ◌+◌, ◌-◌, ◌*◌, ◌/◌, ◌%◌, ◌≤◌, ◌<◌}
 use mathlib.Core.Path.{◌≡◌, refl, sym, ap, ◌∙◌}
 use mathlib.Core.List.{List, [], ◌∷◌, ◌++◌}
@@ -17,7 +18,7 @@ use Rattle.rows.proofs.Tables.{append_fine, held}
 use Rattle.bits.specs.Fields.{field_at}
 use Rattle.picture.specs.Segment.{segment_at, length_checks}
 use Rattle.pieces.specs.declared.Bytes.{Bytes}
-use Rattle.pieces.specs.Pieces.{Piece, bytes_of, nothing, bytes_by}
+use Rattle.pieces.specs.Pieces.{Piece, bytes_of, nothing}
 use Rattle.pieces.proofs.Laws.{refused_bytes}
 use Rattle.layout.specs.declared.Shape.{Shape}
 use Rattle.layout.specs.Built.{Built}
@@ -29,12 +30,12 @@ use Rattle.packets.specs.declared.Setting.{Setting}
 use Rattle.packets.specs.declared.Precinct.{Precinct}
 use Rattle.packets.specs.Ready.{Settled}
 use Rattle.slices.specs.declared.Reading.{Reading}
-use Rattle.slices.specs.Precinct.{precinct_at, precinct, raised}
+use Rattle.slices.specs.Precinct.{precinct, raised}
 use Rattle.slices.specs.Slice.{State, Left, slice_length, slice_header_bytes, slice_marker, slice_checks, top_row, row_of, column_in, is_top, placed, precinct_turn, slice}
 use Rattle.slices.specs.Stream.{sliced, slice_turn}
 use Rattle.slices.specs.Pieces.{precinct_pieces, placed_pieces, slice_pieces}
-use Rattle.slices.specs.Steps.{Placed, IsPrecinct, behind, further, Turned, Read}
-use Rattle.slices.proofs.PrecinctLaws.{clash, settled, row_is, column_is, ends_at, precinct_inside}
+use Rattle.slices.specs.Steps.{Placed, IsPrecinct, said, IsPacked, further, Turned, Read}
+use Rattle.slices.proofs.PrecinctLaws.{clash, row_is, column_is, ends_at, precinct_inside}
 
 -- ---- where a precinct of a slice stands
 
@@ -92,52 +93,6 @@ module _ (s : List ℕ) (c : Setting) (t n at : ℕ) {p : Precinct} (x : IsPreci
   seen_precinct cells f =
       (λ i. precinct s c (sym x.is i).row (sym x.is i).column (sym x.is i).at (top_row c.shape t (sym x.is i).row) cells) ∙ f
 
--- ---- the turn of a precinct
-
-module _ (s : List ℕ) (c : Setting) (t n at : ℕ) (tops : List ℕ) (cells : List ℤ) {p : Precinct} (x : IsPrecinct s c (row_of s c t n) (column_in s c t n) at p) where
-  module _ (b : Bytes) where
-    -- where the reading stands behind a precinct of the slice
-    abbrev after : Verdict → Precinct → Reading
-    after v q = behind v c q at tops b
-
-    placed_is : (v : Verdict) (cells' : List ℤ) → placed s c t n (at, tops, cells) (v, cells')
-        ≡ further (after v (precinct_at s c (row_of s c t n) (column_in s c t n) at)).verdict
-        ((after v (precinct_at s c (row_of s c t n) (column_in s c t n) at)).at, (after v (precinct_at s c (row_of s c t n) (column_in s c t n) at)).tops, cells')
-    placed_is (Ok _) cells' = refl
-    placed_is (Err k) cells' = refl
-
-    ends_in : (v : Verdict) → (v ≡ Fine → p.end ≤ length s) → (after v p).verdict ≡ Fine → (after v p).at ≤ length s
-    ends_in (Ok _) h e = h refl
-    ends_in (Err k) h e = clash e
-
-    has_in : (v : Verdict) (ps : List Piece) → b ≡ bytes_by v (bytes_of ps) → (after v p).bytes ≡ bytes_by (after v p).verdict (bytes_of ps)
-    has_in (Ok _) ps h = h
-    has_in (Err k) ps h = h
-
-    pub turned : {v : Verdict} {r : Reading} {cells' : List ℤ} → precinct s c (row_of s c t n) (column_in s c t n) at (is_top s c t n) cells ≡ (v, cells')
-        → b ≡ bytes_by v (bytes_of (precinct_pieces s c p.row p.column p.at cells)) → r ≡ after v p
-        → Turned s (precinct_turn s c t n (at, tops, cells)) (placed_pieces s c t n (at, tops, cells)) r cells'
-    unfolding precinct_turn
-    turned {v} {r} {cells'} f h e =
-        rw e
-        (record {
-          is =
-              (λ i. placed s c t n (at, tops, cells) (f i))
-              ∙ placed_is v cells'
-              ∙ (λ i. further (after v (sym x.is i)).verdict ((after v (sym x.is i)).at, (after v (sym x.is i)).tops, cells'));
-          inside = ends_in v (λ z. omega (arith, ends_at x, precinct_inside s c (row_of s c t n) (column_in s c t n) at (is_top s c t n) cells ((λ i. (f i).0) ∙ z)));
-          bytes = has_in v (placed_pieces s c t n (at, tops, cells)) (h ∙ (λ i. bytes_by v (bytes_of (precinct_pieces s c (x.is i).row (x.is i).column (x.is i).at cells))));
-        })
-
--- where a reading stands behind a precinct
-module _ (c : Setting) (p : Precinct) (at : ℕ) (tops : List ℕ) (b : Bytes) where
-  pub behind_fine : {v : Verdict} {raise : List ℕ} → v ≡ Fine → raise ≡ raised c p (NL c.shape) tops
-      → ◌≡◌ {A = Reading} (record { verdict = v; at = p.end; tops = raise; bytes = b }) (behind v c p at tops b)
-  behind_fine e f = rw (e, f)
-
-  pub behind_refused : {v : Verdict} {k : Check} → v ≡ Refused k → ◌≡◌ {A = Reading} (record { verdict = v; at = at; tops = tops; bytes = b }) (behind v c p at tops b)
-  behind_refused e = rw e
-
 -- ---- the header of a slice
 
 pub header_ends : (s : List ℕ) (t at : ℕ) → first (slice_checks s t at) ≡ Fine → at + slice_header_bytes ≤ length s
@@ -169,13 +124,45 @@ stops_here {x = x} has e f h =
       bytes = h.3 ∙ refused_bytes (bytes_of has) (h.0 ∙ f);
     }
 
--- ---- the turn of a slice
+-- ---- the turns of a precinct and of a slice
 
 sliced_is : (v : Verdict) (x : State) → sliced (v, x) ≡ further v x
 sliced_is (Ok _) x = refl
 sliced_is (Err k) x = refl
 
+turned_by : {s : List ℕ} {turn : Turn State Left} {left : Left} {has : List Piece} {r : Reading} {cells' : List ℤ} → turn ≡ sliced left → Read s left has r cells' → Turned s turn has r cells'
+turned_by {r = r} {cells' = cells'} e y =
+    record { is = e ∙ (λ i. sliced (y.is i)) ∙ sliced_is r.verdict (r.at, r.tops, cells'); inside = y.inside; bytes = y.bytes }
+
 pub slice_turned : (s : List ℕ) (c : Setting) (t : ℕ) (x : State) {r : Reading} {cells' : List ℤ} → Read s (slice s c t x) (slice_pieces s c t x) r cells'
     → Turned s (slice_turn s c t x) (slice_pieces s c t x) r cells'
 unfolding slice_turn
-slice_turned s c t x {r} {cells'} y = record { is = (λ i. sliced (y.is i)) ∙ sliced_is r.verdict (r.at, r.tops, cells'); inside = y.inside; bytes = y.bytes }
+slice_turned s c t x y = turned_by refl y
+
+module _ (s : List ℕ) (c : Setting) (t n at : ℕ) (tops : List ℕ) (cells : List ℤ) {p : Precinct} (x : IsPrecinct s c (row_of s c t n) (column_in s c t n) at p) where
+  module _ {r : Result Bytes Check} {cells' : List ℤ} (q : IsPacked s c p (precinct s c p.row p.column p.at (top_row c.shape t p.row) cells) cells r cells') where
+    said_is : {w : Result Bytes Check} → r ≡ w → precinct s c (row_of s c t n) (column_in s c t n) at (is_top s c t n) cells ≡ (said w, cells')
+    said_is e = seen_precinct s c t n at x cells (q.is ∙ (λ i. (said (e i), cells')))
+
+    -- behind one that is accepted the reading stands at its end
+    pub turned_on : {b : Bytes} {raise : List ℕ} → r ≡ Ok b → raise ≡ raised c p (NL c.shape) tops
+        → Turned s (precinct_turn s c t n (at, tops, cells)) (placed_pieces s c t n (at, tops, cells)) (record { verdict = Fine; at = p.end; tops = raise; bytes = b }) cells'
+    unfolding precinct_turn
+    turned_on {b} e f =
+        let inside = precinct_inside s c (row_of s c t n) (column_in s c t n) at (is_top s c t n) cells (λ i. (said_is e i).0) in
+        record {
+          is =
+              (λ i. placed s c t n (at, tops, cells) (said_is e i))
+              ∙ (λ i. go ((sym x.is i).end, raised c (sym x.is i) (NL c.shape) tops, cells'))
+              ∙ (λ i. go (p.end, sym f i, cells'));
+          inside = λ z. omega (arith, ends_at x, inside);
+          bytes =
+              if_ok (λ b. b ≡ bytes_of (precinct_pieces s c p.row p.column p.at cells)) (λ k. ⊤) b e q.bytes
+              ∙ (λ i. bytes_of (precinct_pieces s c (x.is i).row (x.is i).column (x.is i).at cells));
+        }
+
+    -- one that is refused stops it where it stood
+    pub turned_back : {k : Check} {g : Reading} → r ≡ Err k → (g.verdict ≡ Refused k) × (g.at ≡ at) × (g.tops ≡ tops) × (g.bytes ≡ nothing)
+        → Turned s (precinct_turn s c t n (at, tops, cells)) (placed_pieces s c t n (at, tops, cells)) g cells'
+    unfolding precinct_turn
+    turned_back e h = turned_by (λ i. placed s c t n (at, tops, cells) (said_is e i)) (stops_here (placed_pieces s c t n (at, tops, cells)) refl refl h)

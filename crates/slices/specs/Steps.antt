@@ -1,19 +1,18 @@
 -- What the steps of a precinct, a slice and the stream ask and answer.
-use Rattle.std.specs.Prelude.{ℕ, ◌^◌, ◌≤◌, ◌<◌, ◌≡◌, Bool, false, List, [], ◌∷◌, ℤ, length, Ok, Err}
+use Rattle.std.specs.Prelude.{ℕ, ◌^◌, ◌≤◌, ◌<◌, ◌≡◌, Bool, false, List, [], ◌∷◌, ℤ, length, Result, Ok, Err, IfOk}
 use Rattle.loops.specs.Run.{Turn, go, stop}
 use Rattle.rows.specs.Rows.{Fine, Refused, Verdict}
+use Rattle.rows.specs.declared.Check.{Check}
 use Rattle.pieces.specs.Pieces.{Piece, Markers, bytes_of, bytes_by, plus}
 use Rattle.pieces.specs.declared.Bytes.{Bytes}
-use Rattle.layout.specs.Bands.{NL}
 use Rattle.layout.specs.Precincts.{Npx, Npy}
 use Rattle.layout.specs.Cells.{start}
 use Rattle.packets.specs.declared.Setting.{Setting}
 use Rattle.packets.specs.declared.Precinct.{Precinct}
 use Rattle.packets.specs.Ready.{Settled}
 use Rattle.slices.specs.declared.precincts.Flags.{Flags}
-use Rattle.slices.specs.declared.precincts.Packed.{Packed}
 use Rattle.slices.specs.declared.Reading.{Reading}
-use Rattle.slices.specs.Precinct.{precinct_at, packet_turn, raised}
+use Rattle.slices.specs.Precinct.{precinct_at, packet_turn}
 use Rattle.slices.specs.Slice.{State, Left, slice_header_bytes}
 use Rattle.slices.specs.Pieces.{slot_pieces, precinct_pieces}
 
@@ -38,25 +37,25 @@ pub record IsPrecinct (s : List ℕ) (c : Setting) (row column at : ℕ) (p : Pr
   pub is : p ≡ precinct_at s c row column at
   pub small : p.end < 2 ^ 33
 
--- a packet goes on with the next place and the flags, or refuses
-abbrev pub onward : Verdict → ℕ → List ℕ → List ℤ → Turn (ℕ × List ℕ × List ℤ) (Verdict × List ℤ)
-onward (Ok _) at raws cells = go (at, raws, cells)
-onward (Err k) at raws cells = stop (Refused k, cells)
+-- what is said of what is read, or refused
+abbrev pub said : {A : Type 0} → Result A Check → Verdict
+said (Ok x) = Fine
+said (Err k) = Refused k
 
-pub record Passed (s : List ℕ) (c : Setting) (p : Precinct) (slot place : ℕ) (raws : List ℕ) (cells : List ℤ) (f : Flags) (cells' : List ℤ) : Type 0 where
-  pub turn : packet_turn s c p.row p.column p.at slot (place, raws, cells) ≡ onward f.verdict f.at f.raws cells'
-  pub inside : f.verdict ≡ Fine → f.at ≤ p.end
-  pub bytes : f.bytes ≡ bytes_by f.verdict (bytes_of (slot_pieces s c p.row p.column p.at slot (place, raws, cells)))
+-- a packet goes on with the next place and the flags, or refuses
+abbrev pub onward : Result Flags Check → List ℤ → Turn (ℕ × List ℕ × List ℤ) (Verdict × List ℤ)
+onward (Ok f) cells = go (f.at, f.raws, cells)
+onward (Err k) cells = stop (Refused k, cells)
+
+pub record Passed (s : List ℕ) (c : Setting) (p : Precinct) (slot place : ℕ) (raws : List ℕ) (cells : List ℤ) (r : Result Flags Check) (cells' : List ℤ) : Type 0 where
+  pub turn : packet_turn s c p.row p.column p.at slot (place, raws, cells) ≡ onward r cells'
+  pub inside : IfOk r (λ f. f.at ≤ p.end)
+  pub bytes : IfOk r (λ f. f.bytes ≡ bytes_of (slot_pieces s c p.row p.column p.at slot (place, raws, cells)))
 
 -- a precinct, or its packets: what is left, and where the bytes went
-pub record IsPacked (s : List ℕ) (c : Setting) (p : Precinct) (left : Verdict × List ℤ) (cells : List ℤ) (r : Packed) (cells' : List ℤ) : Type 0 where
-  pub is : left ≡ (r.verdict, cells')
-  pub bytes : r.bytes ≡ bytes_by r.verdict (bytes_of (precinct_pieces s c p.row p.column p.at cells))
-
--- where the reading stands behind a precinct that is accepted, or refused
-abbrev pub behind : Verdict → Setting → Precinct → ℕ → List ℕ → Bytes → Reading
-behind (Ok _) c p at tops bytes = record { verdict = Fine; at = p.end; tops = raised c p (NL c.shape) tops; bytes = bytes }
-behind (Err k) c p at tops bytes = record { verdict = Refused k; at = at; tops = tops; bytes = bytes }
+pub record IsPacked (s : List ℕ) (c : Setting) (p : Precinct) (left : Verdict × List ℤ) (cells : List ℤ) (r : Result Bytes Check) (cells' : List ℤ) : Type 0 where
+  pub is : left ≡ (said r, cells')
+  pub bytes : IfOk r (λ b. b ≡ bytes_of (precinct_pieces s c p.row p.column p.at cells))
 
 -- a precinct goes on with the reading, or refuses with it
 abbrev pub further : Verdict → State → Turn State Left

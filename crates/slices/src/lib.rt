@@ -8,12 +8,12 @@ pub mod walk;
 ghost use Rattle.std.specs.Prelude.{◌≡◌, ◌+◌, ◌≤◌, ◌<◌, ◌^◌, length};
 ghost use Rattle.rows.specs.Rows.{first, Fine};
 ghost use Rattle.pieces.specs.Pieces.{nothing, all};
-ghost use Rattle.layout.specs.Precincts.{Npy, Np, slices};
+ghost use Rattle.layout.specs.Precincts.{Np, slices};
 ghost use Rattle.packets.specs.Ready.{Settled};
 ghost use Rattle.slices.specs.Slice.{slice_header_bytes, slice_checks, precinct_turn, precincts, precincts_by, slice};
 ghost use Rattle.slices.specs.Stream.{end_checks};
 ghost use Rattle.slices.specs.Pieces.{placed_pieces, precincts_pieces, slice_pieces};
-ghost use Rattle.slices.specs.Steps.{Lent, behind, Turned, Read, Headed};
+ghost use Rattle.slices.specs.Steps.{Lent, Turned, Read, Headed};
 
 use layout::precincts::precincts_in_slice;
 use packets::{Precinct, Setting};
@@ -23,6 +23,7 @@ use pieces::{Bytes, NOTHING};
 use rows::{AMPLE, Check, Field, Row, Verdict};
 
 // Where a reading stands: the verdict, the next place, and the bands' largest T so far; and where the bytes went of what is read. The work cells stand beside it.
+// No Result: `Read` and `Turned` promise the place and the largest T of a reading that is refused too.
 #[derive(Clone, Copy)]
 pub struct Reading {
     pub verdict: Verdict,
@@ -61,42 +62,14 @@ pub fn slice_row(s: &[u8], t: usize, at: usize) -> Verdict
     rows::first(&[Check(Row::Value, at + 4, Field::Ysl, index, t, t)])
 }
 
-// Where a reading stands behind a precinct.
-fn behind(
-    v: Verdict,
-    c: Setting,
-    p: Precinct,
-    at: usize,
-    tops: [usize; 40],
-    bytes: Bytes,
-) -> Reading
-    requires { Settled c × (p.row < Npy c.shape) }
-    ensures { result ≡ behind v c p at tops bytes }
-{
-    match v {
-        Ok(()) => Reading {
-            verdict: v,
-            at: p.end,
-            tops: tops::raised(c, p, tops),
-            bytes: bytes,
-        },
-        Err(_) => Reading {
-            verdict: v,
-            at: at,
-            tops: tops,
-            bytes: bytes,
-        },
-    }
-}
-
 // What stands at `at` is refused: nothing of it is read.
 pub fn stopped(v: Verdict, at: usize, tops: [usize; 40]) -> Reading
     ensures { (result.verdict ≡ v) × (result.at ≡ at) × (result.tops ≡ tops) × (result.bytes ≡ nothing) }
 {
     Reading {
         verdict: v,
-        at: at,
-        tops: tops,
+        at,
+        tops,
         bytes: NOTHING,
     }
 }
@@ -117,10 +90,15 @@ fn precinct_turn(
     let shape = c.shape;
     let top = t * shape.hsl;
     let p = precincts::precinct_in(s, c, t, n, at);
-    let k = precincts::precinct(s, cells, c, p, p.row == top);
-    let v = k.verdict;
-    let bytes = k.bytes;
-    behind(v, c, p, at, tops, bytes)
+    match precincts::precinct(s, cells, c, p, p.row == top) {
+        Ok(bytes) => Reading {
+            verdict: Ok(()),
+            at: p.end,
+            tops: tops::raised(c, p, tops),
+            bytes,
+        },
+        Err(k) => stopped(Err(k), at, tops),
+    }
 }
 
 // The precincts of slice t.
@@ -159,7 +137,7 @@ pub fn all_precincts(
         verdict: Ok(()),
         at: place,
         tops: most,
-        bytes: bytes,
+        bytes,
     }
 }
 
@@ -176,7 +154,7 @@ pub fn with_header(r: Reading) -> Reading
     Reading {
         verdict: v,
         at: r.at,
-        tops: tops,
+        tops,
         bytes: more.by(v),
     }
 }

@@ -1,14 +1,14 @@
 // C.2: a precinct, its header and its packets.
 ghost use Rattle.std.specs.Prelude.{◌≡◌, cond, [], ◌∷◌, ◌+◌, ◌*◌, ◌-◌, ◌/◌, ◌%◌, ◌≤◌, ◌<◌, ◌^◌, length};
 ghost use Rattle.bits.specs.Fields.{field};
-ghost use Rattle.rows.specs.Rows.{check, first, each, Fine};
+ghost use Rattle.rows.specs.Rows.{check, first, each};
 ghost use Rattle.rows.specs.declared.Row.TheVariants.{Mode, Length};
 ghost use Rattle.rows.specs.declared.Field.TheVariants.{D as ModeField, Rest};
 ghost use Rattle.layout.specs.Bands.{NL};
 ghost use Rattle.layout.specs.Precincts.{Np, slices};
 ghost use Rattle.layout.specs.Slots.{slots};
 ghost use Rattle.packets.specs.Ready.{Settled, Standing};
-ghost use Rattle.slices.specs.Precinct.{field_checks, mode_checks, header_checks, packets, packets_by, precinct};
+ghost use Rattle.slices.specs.Precinct.{field_checks, mode_checks, header_checks, packets, precinct};
 ghost use Rattle.slices.specs.Slice.{row_of, column_in};
 ghost use Rattle.slices.specs.Steps.{Lent, Placed, IsPrecinct, Passed, IsPacked};
 
@@ -21,20 +21,12 @@ use picture::segment::left;
 use pieces::{Bytes, NOTHING};
 use rows::{AMPLE, Check, Field, Row, Verdict};
 
-// What a slot of a precinct leaves beside the cells: the verdict, the next place, the raw flags of the slots so far, and where the slot's bytes went.
+// What a slot of a precinct leaves beside the cells: the next place, the raw flags of the slots so far, and where the slot's bytes went.
 #[derive(Clone, Copy)]
 struct Flags {
-    verdict: Verdict,
     at: usize,
     raws: [usize; 10],
     bytes: Bytes,
-}
-
-// What a precinct leaves beside the cells: the verdict, and where its bytes went.
-#[derive(Clone, Copy)]
-pub(crate) struct Packed {
-    pub(crate) verdict: Verdict,
-    pub(crate) bytes: Bytes,
 }
 
 // The precinct in this row and column whose header stands at `at`, whether it is accepted or not.
@@ -44,9 +36,9 @@ fn precinct_at(s: &[u8], c: Setting, row: usize, column: usize, at: usize) -> Pr
 {
     let body = at + c.head;
     Precinct {
-        row: row,
-        column: column,
-        at: at,
+        row,
+        column,
+        at,
         end: body + bits::u24_at(s, at),
         q: bits::u8_at(s, at + 3),
         r: bits::u8_at(s, at + 4),
@@ -134,29 +126,27 @@ fn packet_turn(
     slot: usize,
     at: usize,
     raws: [usize; 10],
-) -> Flags
+) -> Result<Flags, Check>
     requires { Settled c × Standing s.now c p (length cells.old) × (at ≤ p.end) × (slot < slots c.shape) × IsPrecinct s.now c p.row p.column p.at p }
     ensures { Passed s.now c p slot at raws cells.old result cells.new }
 {
     if any_line(c, p, slot) {
         let o = packets::packet(s, cells, c, p, slot, at, raws);
-        let v = o.verdict;
+        o.verdict?;
         let bytes = o.bytes;
         let mut flags = raws;
         flags[slot] = o.dr;
-        return Flags {
-            verdict: v,
+        return Ok(Flags {
             at: o.past,
             raws: flags,
-            bytes: bytes,
-        };
+            bytes,
+        });
     }
-    Flags {
-        verdict: Ok(()),
-        at: at,
-        raws: raws,
+    Ok(Flags {
+        at,
+        raws,
         bytes: NOTHING,
-    }
+    })
 }
 
 fn rest_row(p: Precinct, place: usize) -> Verdict
@@ -166,8 +156,8 @@ fn rest_row(p: Precinct, place: usize) -> Verdict
     rows::first(&[Check(Row::Length, p.at, Field::Rest, p.end - place, 0, 0)])
 }
 
-// The packets, which stand behind the header and fill the precinct.
-fn packets(s: &[u8], cells: &mut [i64], c: Setting, p: Precinct) -> Packed
+// The packets, which stand behind the header and fill the precinct: where its bytes went.
+fn packets(s: &[u8], cells: &mut [i64], c: Setting, p: Precinct) -> Result<Bytes, Check>
     requires { Settled c × Standing s.now c p (length cells.old) × IsPrecinct s.now c p.row p.column p.at p }
     ensures { IsPacked s.now c p (packets s.now c p.row p.column p.at cells.old) cells.old result cells.new }
 {
@@ -176,49 +166,28 @@ fn packets(s: &[u8], cells: &mut [i64], c: Setting, p: Precinct) -> Packed
     let mut raws: [usize; 10] = [0; 10];
     let mut bytes = Bytes::of_precincts(at - p.at);
     for slot in 0..slot_count(shape) {
-        let f = packet_turn(s, cells, c, p, slot, at, raws);
-        let v = f.verdict;
-        match v {
-            Ok(()) => {
-                at = f.at;
-                let flags = f.raws;
-                raws = flags;
-                let more = f.bytes;
-                bytes = bytes.and(more);
-            }
-            Err(_) => {
-                return Packed {
-                    verdict: v,
-                    bytes: NOTHING,
-                };
-            }
-        }
+        let f = packet_turn(s, cells, c, p, slot, at, raws)?;
+        at = f.at;
+        let flags = f.raws;
+        raws = flags;
+        let more = f.bytes;
+        bytes = bytes.and(more);
     }
-    let v = rest_row(p, at);
-    Packed {
-        verdict: v,
-        bytes: bytes.by(v),
-    }
+    rest_row(p, at)?;
+    Ok(bytes)
 }
 
-fn packets_by(v: Verdict, s: &[u8], cells: &mut [i64], c: Setting, p: Precinct) -> Packed
-    requires { Settled c × (v ≡ Fine → Standing s.now c p (length cells.old)) × IsPrecinct s.now c p.row p.column p.at p }
-    ensures { IsPacked s.now c p (packets_by s.now c p.row p.column p.at v cells.old) cells.old result cells.new }
-{
-    match v {
-        Ok(()) => packets(s, cells, c, p),
-        Err(_) => Packed {
-            verdict: v,
-            bytes: NOTHING,
-        },
-    }
-}
-
-// A precinct, `top` where it stands in the top row of its slice.
-pub(crate) fn precinct(s: &[u8], cells: &mut [i64], c: Setting, p: Precinct, top: bool) -> Packed
+// A precinct, `top` where it stands in the top row of its slice: where its bytes went.
+pub(crate) fn precinct(
+    s: &[u8],
+    cells: &mut [i64],
+    c: Setting,
+    p: Precinct,
+    top: bool,
+) -> Result<Bytes, Check>
     requires { Lent s.now c p.at (length cells.old) × Placed c p top × IsPrecinct s.now c p.row p.column p.at p }
     ensures { IsPacked s.now c p (precinct s.now c p.row p.column p.at top cells.old) cells.old result cells.new }
 {
-    let v = header_row(s, c, p, top);
-    packets_by(v, s, cells, c, p)
+    header_row(s, c, p, top)?;
+    packets(s, cells, c, p)
 }

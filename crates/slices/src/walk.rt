@@ -13,6 +13,7 @@ use picture::segment::left;
 use rows::{AMPLE, Check, Field, Row, Verdict};
 
 // Where a walk stands: the verdict, and the next place, or the place of what is refused.
+// No Result: `Walks` and `WalkTurned` promise the place of a walk that is refused too.
 #[derive(Clone, Copy)]
 pub struct Walked {
     pub verdict: Verdict,
@@ -25,7 +26,7 @@ fn step(v: Verdict, at: usize, to: usize) -> Walked
 {
     match v {
         Ok(()) => Walked { verdict: v, at: to },
-        Err(_) => Walked { verdict: v, at: at },
+        Err(_) => Walked { verdict: v, at },
     }
 }
 
@@ -78,7 +79,7 @@ fn walk_by(v: Verdict, s: &[u8], c: Setting, t: usize, at: usize) -> Walked
 {
     match v {
         Ok(()) => walk_precincts(s, c, t, at + 6),
-        Err(_) => Walked { verdict: v, at: at },
+        Err(_) => Walked { verdict: v, at },
     }
 }
 

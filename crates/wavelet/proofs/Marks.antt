@@ -98,7 +98,7 @@ module _ {W H Nx Ny : ℕ} (parts : Decomposed W H Nx Ny) where
       → (x y : ℕ) → x < W → y < H → inverse touched W H Nx Ny M x y ≡ marked (inverse numbers W H Nx Ny N x y)
   inverse_raised N M = inverse_keeps raised parts N M M
 
--- what `inverse_numbers` leaves, read as marks: a place is marked by the form of Annex E where a number that is not 0 stood in a cell that it reads
+-- what `inverse` of numbers leaves, read as marks: a place is marked by the form of Annex E where a number that is not 0 stood in a cell that it reads
 pub numbered_marks : {w h nx ny : ℕ} {l l' : List ℤ} → Decomposed w h nx ny → Numbered w h nx ny l l'
     → (x y : ℕ) → x < w → y < h → marked (number_at w l' x y) ≡ inverse touched w h nx ny (bands (λ c r. marked (number_at w l c r))) x y
 numbered_marks {w} {l = l} parts made x y hx hy =

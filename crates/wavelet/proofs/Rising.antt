@@ -1,4 +1,4 @@
--- The steps of numbers in whole numbers are those over naturals, and so is the transform: what `inverse_numbers` leaves is document 01's rule 2, place by
+-- The steps of numbers in whole numbers are those over naturals, and so is the transform: what `inverse` of numbers leaves is document 01's rule 2, place by
 -- place. Assumes nothing.
 use mathlib.Core.Path.{◌≡◌, ◌∙◌}
 use mathlib.Core.List.{List}

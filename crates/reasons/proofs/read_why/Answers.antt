@@ -3,7 +3,7 @@ use mathlib.Core.Path.{◌∙◌}
 use mathlib.Core.List.{[], ◌∷◌}
 use Rattle.whole.specs.Cells.{listed}
 use Rattle.rows.specs.Rows.{Fine}
-use Rattle.reasons.specs.Steps.{coarse_of}
+use Rattle.reasons.specs.Coarsest.{coarse_of}
 use Rattle.reasons.proofs.Telling.{searched}
 use Rattle.reasons.proofs.read_why.Goals as goal
 
@@ -33,7 +33,5 @@ returns c =
       verdict = Fine;
       place = h.picture.lcod;
       components = h.picture.nc;
-      band = (e0 i).band ∷ (e1 i).band ∷ (e2 i).band ∷ (e3 i).band ∷ [];
-      precinct = (e0 i).precinct ∷ (e1 i).precinct ∷ (e2 i).precinct ∷ (e3 i).precinct ∷ [];
-      truncation = (e0 i).truncation ∷ (e1 i).truncation ∷ (e2 i).truncation ∷ (e3 i).truncation ∷ [];
+      coarsest = e0 i ∷ e1 i ∷ e2 i ∷ e3 i ∷ [];
     }

@@ -8,7 +8,5 @@ returns c =
       verdict = c.args.v;
       place = c.place.ensures i;
       components = 0;
-      band = replicate 4 0;
-      precinct = replicate 4 0;
-      truncation = replicate 4 0;
+      coarsest = replicate 4 (c.nowhere.ensures i);
     }

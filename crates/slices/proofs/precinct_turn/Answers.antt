@@ -2,7 +2,7 @@
 use native.Mathlib.Omega.{arith}
 use Rattle.layout.proofs.Columns.{Npy_most}
 use Rattle.slices.proofs.PrecinctLaws.{own, place_is}
-use Rattle.slices.proofs.SliceLaws.{row_inside, placed_in, seen_precinct, turned}
+use Rattle.slices.proofs.SliceLaws.{row_inside, placed_in, turned_on, turned_back}
 use Rattle.slices.proofs.precinct_turn.Goals as goal
 
 pub overflow_mul-top : goal.overflow_mul-top
@@ -11,8 +11,8 @@ overflow_mul-top c =
     let h = c.requires in
     omega (arith, (row_inside a.c.shape h.0.settled.shape a.t h.1 a.n h.2).0, Npy_most a.c.shape h.0.settled.shape)
 
-pub precinct-k-requires : goal.precinct-k-requires
-precinct-k-requires c =
+pub precinct-requires : goal.precinct-requires
+precinct-requires c =
     let a = c.args in
     let h = c.requires in
     let x = c.precinct_in-p.ensures in (
@@ -21,16 +21,18 @@ precinct-k-requires c =
       own x,
     )
 
-pub behind-requires : goal.behind-requires
-behind-requires c =
+pub raised-requires : goal.raised-requires
+raised-requires c =
     let a = c.args in
     let h = c.requires in
     (h.0.settled, (placed_in a.s.now a.c a.t a.n a.at c.precinct_in-p.ensures h.0.settled h.1 h.2).row)
 
-pub returns : goal.returns
-returns c =
+pub returns-in-Ok : goal.returns-in-Ok
+returns-in-Ok c =
     let a = c.args in
-    let x = c.precinct_in-p.ensures in
-    let q = c.precinct-k in
-    turned a.s.now a.c a.t a.n a.at a.tops a.cells.now x q.result.bytes
-    (seen_precinct a.s.now a.c a.t a.n a.at x a.cells.now q.ensures.is) q.ensures.bytes c.behind.ensures
+    turned_on a.s.now a.c a.t a.n a.at a.tops a.cells.now c.precinct_in-p.ensures c.precinct.ensures c.in-Ok.is c.raised.ensures
+
+pub returns-in-Err : goal.returns-in-Err
+returns-in-Err c =
+    let a = c.args in
+    turned_back a.s.now a.c a.t a.n a.at a.tops a.cells.now c.precinct_in-p.ensures c.precinct.ensures c.in-Err.is c.stopped.ensures

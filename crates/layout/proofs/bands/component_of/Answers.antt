@@ -3,7 +3,7 @@ use mathlib.Core.Path.{◌≡◌, ◌∙◌}
 use lib.ListN.{get_or}
 use Rattle.layout.specs.Bands.{sx, sy, Wc, Hc, N'y}
 use Rattle.layout.specs.Sizes.{component_of}
-use Rattle.layout.proofs.Sizes.{div_ceil_is}
+use Rattle.whole.proofs.Ceiling.{div_ceil_is}
 use Rattle.layout.proofs.Shapes.{component_small}
 use Rattle.layout.proofs.bands.component_of.Goals as goal
 

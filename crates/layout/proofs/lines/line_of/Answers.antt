@@ -16,7 +16,7 @@ use Rattle.layout.specs.Slots.{line}
 use Rattle.layout.specs.Sizes.{band_of, column_of, reach_of, span_of, inner_of}
 use Rattle.layout.proofs.Columns.{Npy_most}
 use Rattle.layout.proofs.Reaches.{included_is, Hb_letter, Wpb_size}
-use Rattle.layout.proofs.Sizes.{div_ceil_is}
+use Rattle.whole.proofs.Ceiling.{div_ceil_is}
 use Rattle.layout.proofs.lines.line_of.Goals as goal
 
 pub reach_of-reach-requires : goal.reach_of-reach-requires

@@ -5,7 +5,8 @@ use native.Mathlib.Omega.{arith}
 use Rattle.whole.specs.Numbers.{ceil_div}
 use Rattle.wavelet.specs.Transform.{low_size, high_size}
 use Rattle.layout.specs.Precincts.{by_letter}
-use Rattle.layout.proofs.Sizes.{div_ceil_is, ceil_most, size_most}
+use Rattle.whole.proofs.Ceiling.{div_ceil_is}
+use Rattle.layout.proofs.Sizes.{ceil_most, size_most}
 use Rattle.layout.proofs.lines.span_of.Goals as goal
 
 pub returns : goal.returns

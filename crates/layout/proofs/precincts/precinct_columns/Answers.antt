@@ -2,7 +2,7 @@
 use native.Mathlib.Omega.{arith}
 use Rattle.layout.specs.Precincts.{Npx}
 use Rattle.layout.proofs.Columns.{Npx_most}
-use Rattle.layout.proofs.Sizes.{div_ceil_is}
+use Rattle.whole.proofs.Ceiling.{div_ceil_is}
 use Rattle.layout.proofs.precincts.precinct_columns.Goals as goal
 
 pub returns : goal.returns

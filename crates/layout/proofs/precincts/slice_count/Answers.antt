@@ -2,7 +2,7 @@
 use native.Mathlib.Omega.{arith}
 use Rattle.layout.specs.Precincts.{slices}
 use Rattle.layout.proofs.Columns.{slices_most}
-use Rattle.layout.proofs.Sizes.{div_ceil_is}
+use Rattle.whole.proofs.Ceiling.{div_ceil_is}
 use Rattle.layout.proofs.precincts.slice_count.Goals as goal
 
 pub returns : goal.returns
