@@ -1,7 +1,7 @@
 // Reads the header of each file that is named, and prints what Annex B makes of it: components, slices, precincts, packets and their lines.
 #![tactic(auto)]
 
-ghost use Rattle.std.specs.Prelude.{◌≡◌, ◌*◌, ◌<◌, ◌≤◌, ◌^◌};
+ghost use Rattle.std.specs.Prelude.{◌<◌};
 ghost use Rattle.layout.specs.Built.{Built};
 ghost use Rattle.layout.specs.Precincts.{Npx, Npy, slices};
 ghost use Rattle.layout.specs.Slots.{slots};
@@ -9,16 +9,10 @@ ghost use Rattle.layout.specs.Slots.{slots};
 use input::each_file;
 use layout::bands::component_of;
 use layout::lines::{candidate_count, line_at, slot_count};
+use layout::numbers::product;
 use layout::precincts::{precinct_columns, precinct_rows, precincts_in_slice, slice_count};
 use layout::{Line, Shape};
 use std::io;
-
-fn product(a: usize, b: usize) -> usize
-    requires { (a < 2 ^ 30) × (b < 2 ^ 30) }
-    ensures { (result ≡ a * b) × (result < 2 ^ 60) }
-{
-    a * b
-}
 
 fn print_component(rt: &impl Print, s: Shape, i: usize) -> io::Result<()>
     requires { Built s × (i < s.nc) }

@@ -40,6 +40,7 @@ impl Words<'_> {
         ensures { (length self.new.left.now ≤ length self.old.left.now) × (0 < length self.old.left.now → length self.new.left.now < length self.old.left.now) }
     {
         let mut value = 0;
+        // no `for`: the byte that ends the word is taken, and what is behind it stays
         while let Some((b, left)) = self.left.split_first() {
             self.left = left;
             if !b.is_ascii_digit() {
@@ -101,6 +102,7 @@ fn compare(rt: &impl Print, lines: &[u8]) -> io::Result<()> {
     let mut words = Words { left: lines };
     let mut agreed = 0;
     let mut differing = 0;
+    // no `for`: a line takes as much of the text as its numbers have
     while !words.left.is_empty() {
         if judged(rt, words.next_line())? {
             agreed += 1;

@@ -205,7 +205,8 @@ fn main(rt: HostRuntime) -> io::Result<()> {
         agreed: 0,
         told: 0,
     };
-    // not `each_file`: a word may be a mode's, and the tally grows from word to word
+    // not `each_file`: a word may be a mode's, and the tally grows from word to word. The words are counted, since one that is not UTF-8 ends the program when its
+    // turn comes, and `std::env::args` would before the first
     for i in 1..usize::MAX {
         let Some(word) = input::word(&rt, i)? else {
             break;
