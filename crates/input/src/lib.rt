@@ -89,6 +89,7 @@ pub fn each_file<F: Fn(&str, Option<&[u8]>) -> io::Result<()>>(
 ) -> io::Result<()>
     requires { (said : _) (held : _) → IfSome held (λ s. length s.now ≤ 65535) → F.pre show said held }
 {
+    // the words are counted, since one that is not UTF-8 ends the program when its turn comes, and `std::env::args` would before the first
     for i in 1..usize::MAX {
         match word(rt, i)? {
             Some(name) => show_file(rt, name.as_str(), &show)?,
@@ -202,6 +203,26 @@ mod tests {
     fn goes_on_without_a_file(rt: HostRuntime) -> Result<(), Fail> {
         let show = |_: &str, held: Option<&[u8]>| Err(io::Error::from(kind_of(held)));
         show_file(&rt, "/dev/null/none", &show)?;
+        Ok(())
+    }
+
+    #[test]
+    fn goes_through_the_command_line(rt: HostRuntime) -> Result<(), Fail> {
+        each_file(&rt, |_: &str, _: Option<&[u8]>| Ok(()))?;
+        Ok(())
+    }
+
+    #[test]
+    fn prints_what_a_stream_makes(rt: HostRuntime) -> Result<(), Fail> {
+        let letter = |given: &[u8], out: &mut [u8]| -> usize {
+            if given.is_empty() || out.is_empty() {
+                return 0;
+            }
+            out[0] = given[0];
+            1
+        };
+        print_text(&rt, b"\n".as_slice(), letter)?;
+        print_text(&rt, [0u8; 16385].as_slice(), letter)?;
         Ok(())
     }
 }
