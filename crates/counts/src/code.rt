@@ -49,12 +49,10 @@ pub fn moved(r: usize, t: usize, n: usize) -> usize
     // up to twice as many 1-bits are signed quantities, more are unary
     let theta = r.saturating_sub(t);
     let high = r + 0x1_0000_0000;
-    let half = (n + 1) / 2;
-    let near = if n % 2 == 1 { high - half } else { high + half };
-    let to = if 2 * theta < n {
-        high + n - theta
-    } else {
-        near
-    };
+    let down = high - (n + 1) / 2;
+    let up = high + n / 2;
+    let far = high + n - theta;
+    let near = if n % 2 == 1 { down } else { up };
+    let to = if 2 * theta < n { far } else { near };
     to - 0x1_0000_0000
 }

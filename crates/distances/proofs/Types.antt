@@ -6,7 +6,7 @@ use native.Mathlib.Nat.{mul-le-mul}
 use native.Mathlib.Decide.{dec_lt}
 use native.Mathlib.Omega.{arith}
 use borrow.Author.Tests.{lt-ltb, le-ltb}
-use Rattle.wavelet.specs.Transform.{Kind, LL}
+use Rattle.wavelet.specs.Transform.{Kind, LL, HL, LH, HH}
 use Rattle.wavelet.specs.Bands.{τx, τy, Has, Coefficient}
 use Rattle.wavelet.specs.Places.{place}
 use Rattle.layout.specs.declared.Shape.{Shape}
@@ -37,6 +37,24 @@ module _ (s : Shape) (built : Built s) where
       by : Dec (s.nly < s.nlx) → type_of s LL s.nlx ≡ 0
       by (yes h) = type_deep s LL s.nlx h ∙ omega arith
       by (no n) = type_even s LL s.nlx (omega arith) ∙ omega (arith, built.no_more)
+
+  -- HL, LH and HH of a level of both directions follow one another
+  pub type_lh : (d : ℕ) → d ≤ s.nly → type_of s LH d ≡ type_of s HL d + 1
+  type_lh d h = type_even s LH d h ∙ omega (arith, type_even s HL d h)
+
+  pub type_hh : (d : ℕ) → d ≤ s.nly → type_of s HH d ≡ type_of s HL d + 2
+  type_hh d h = type_even s HH d h ∙ omega (arith, type_even s HL d h)
+
+  -- a level's filter types are among those of the picture
+  pub type_below : (d : ℕ) → 0 < d → d ≤ s.nlx → type_of s HL d < Nβ s
+  type_below d up h = by (dec_lt s.nly d)
+    where
+      by : Dec (s.nly < d) → type_of s HL d < Nβ s
+      by (yes l) = omega (arith, type_deep s HL d l)
+      by (no n) = omega (arith, type_even s HL d (omega arith), built.no_more)
+
+  pub types_below : (d : ℕ) → 0 < d → d ≤ s.nly → type_of s HL d + 2 < Nβ s
+  types_below d up h = omega (arith, type_even s HL d h, built.no_more)
 
   -- there are 40 bands or fewer
   pub band_below : (i β : ℕ) → i < s.nc → β < Nβ s → band s β i < 40

@@ -7,15 +7,15 @@ use native.Mathlib.Numerals.{add-one}
 use native.Mathlib.Omega.{arith}
 use lib.IntN.{ℤ, pos, negsuc, ◌+ℤ◌, +ℤ_assoc}
 use lib.ListN.{length, get_or, set}
-use lib.Pow.{pow_pos}
+use lib.Pow.{pow_pos, pow_mono}
 use Rattle.whole.specs.Numbers.{ceil_div, Within, Near}
 use Rattle.whole.specs.declared.Kind.{Kind}
 use Rattle.whole.specs.declared.Kind.TheVariants.{Samples, Numbers}
 use Rattle.whole.proofs.Linear.{of_dist}
 use Rattle.whole.proofs.Passes.{mapped, mapped_step}
 use Rattle.whole.proofs.Within.{within_refl, within_le, within_add, within_shr}
-use Rattle.output.specs.Linear.{levelled, rescaled, clamp, sample, distance, output_of}
-use Rattle.output.specs.Constants.{scale_of, by_scale, output_by_scale}
+use Rattle.output.specs.Linear.{levelled, rescaled, clamp, sample, distance, output_of, Precisions}
+use Rattle.output.specs.Constants.{scale_of, by_scale, output_by_scale, Usable}
 
 -- ---- document 01, distance rules 4 and 5
 
@@ -70,6 +70,13 @@ pub output_by_scale_lem : (kind : Kind) (Bw B : ℕ) (v : ℤ) → output_by_sca
 unfolding distance
 output_by_scale_lem Samples Bw B v = by_scale_lem Bw B v
 output_by_scale_lem Numbers Bw B v = refl
+
+pub usable : {Bw B : ℕ} → Precisions Bw B → Usable (scale_of Bw B)
+usable {Bw} {B} h = record {
+  lift = omega (arith, pow_mono {i = Bw} {j = 20} h.wide, pow_mono {i = Bw - B} {j = 20} (omega arith));
+  shift = omega arith;
+  top = omega (arith, pow_mono {i = B} {j = 16} h.most, pow_pos B);
+}
 
 -- ---- a loop that writes g's value over each element: a turn, as its code leaves the list
 pub pass_goes : {A : Type 0} (g : ℕ → A → A) (x : ℕ) (l : List A) (d : A) {now : List A} {z : A} → now ≡ mapped g x l → z ≡ g x (get_or l x d)

@@ -1,5 +1,5 @@
 -- The subpackets' stretches and the tables of checks, as the code has them. Assumes nothing.
-use Rattle.std.specs.Prelude.{Result}
+use Rattle.std.specs.Prelude.{Result, Ok}
 use mathlib.Core.Path.{◌≡◌, refl, sym, ap, ◌∙◌}
 use mathlib.Core.Bool.{Bool, true, false, cond}
 use mathlib.Core.List.{List, [], ◌∷◌, ◌++◌}
@@ -10,12 +10,13 @@ use lib.IntN.{ℤ}
 use Rattle.whole.specs.Numbers.{ceil_div}
 use Rattle.rows.specs.Rows.{check, ample, first, then, broken, answered, Fine, Refused, Verdict}
 use Rattle.rows.specs.declared.Row.TheVariants.{Length, Mode}
-use Rattle.rows.specs.declared.Field.TheVariants.{Packet, Dr, Significance, Counts, Signs}
+use Rattle.rows.specs.declared.Field.TheVariants.{Packet, Dr, Significance, Counts, Data, Signs}
 use Rattle.rows.specs.declared.Check.{Check}
 use Rattle.rows.proofs.Tables.{held, append_fine, first_append}
 use Rattle.bits.specs.Packet.{header_bytes}
 use Rattle.bits.specs.declared.packet.PacketHeader.{PacketHeader}
 use Rattle.layout.specs.Slots.{candidates}
+use Rattle.counts.specs.declared.Counted.{Counted}
 use Rattle.counts.specs.Lines.{Line as LineCounts}
 use Rattle.values.specs.declared.Next.{Next}
 use Rattle.packets.specs.declared.Setting.{Setting}
@@ -23,9 +24,9 @@ use Rattle.packets.specs.declared.Precinct.{Precinct}
 use Rattle.packets.specs.declared.Parts.{Parts}
 use Rattle.packets.specs.Precincts.{stretch}
 use Rattle.packets.specs.Passes.{marks, packet_counts, packet_values}
-use Rattle.packets.specs.Packets.{sign_length, flag_checks, head, Lsig, sig_at, cnt_at, dat_at, Lsign, head_checks, after_values, values_by, counts_of}
+use Rattle.packets.specs.Packets.{sign_length, flag_checks, head, Lsig, sig_at, cnt_at, dat_at, Lsign, head_checks, count_checks, data_checks, after_values, values_by, counts_of}
 use Rattle.packets.specs.Pieces.{sign_content}
-use Rattle.packets.specs.Steps.{Working, IsParts, bound_flag, signs_in, IsSigned}
+use Rattle.packets.specs.Steps.{Working, data_row, IsParts, bound_flag, signs_in, IsSigned}
 use Rattle.packets.proofs.LinePasses.{standing_still}
 
 pub signs_most : (c : Setting) (h : PacketHeader) → sign_length c h ≤ h.lsgn
@@ -135,6 +136,26 @@ module _ (s : List ℕ) (c : Setting) (p : Precinct) (slot at : ℕ) where
         → counts_of s c p slot at cells ≡ y
     counts_are cells f =
         (λ i. packet_counts s c p slot (stretch s (sym is.cnt i) (sym long_cnt i)) (stretch s (sym is.sig i) (sym long_sig i)) (sym is.raw i) cells) ∙ f
+
+    -- ---- behind the counts
+
+    -- `data_row` gives the checks of counts that are done
+    pub done_table : {line : LineCounts} {k : Counted} {bytes : ℕ} {v : Verdict} → line ≡ Ok k → bytes ≡ ceil_div k.need 2 → v ≡ first (data_row p parts bytes)
+        → v ≡ first (count_checks s c p slot at line ++ data_checks s c p slot at line)
+    done_table e b f =
+        let rest = ap (λ (n : ℕ). p.end - n) is.sgn in
+        f ∙ (λ i. first (
+        check Length (is.dat i) Data (long_dat i) 0 (p.end - is.dat i)
+        ∷ check Length (is.dat i) Data (long_dat i) (b i) ample
+        ∷ check Length (is.sgn i) Signs (long_sgn i) 0 (rest i)
+        ∷ []))
+        ∙ (λ i. first (count_checks s c p slot at (sym e i) ++ data_checks s c p slot at (sym e i)))
+
+    pub done_inside : {line : LineCounts} {k : Counted} {v : Verdict} → line ≡ Ok k → v ≡ first (count_checks s c p slot at line ++ data_checks s c p slot at line)
+        → parts.dat ≤ p.end → v ≡ Fine → parts.past ≤ p.end
+    done_inside {k = k} e f h g =
+        let t = held (data_checks s c p slot at (Ok k)) ((λ i. first (count_checks s c p slot at (sym e i) ++ data_checks s c p slot at (sym e i))) ∙ sym f ∙ g) in
+        omega (arith, t.0.most, t.1.1.0.most, is.dat, is.sgn, is.past)
 
     -- ---- the values
 

@@ -134,6 +134,9 @@ scaled_one Fq x y e = sym (scaled_back Fq x) ∙ ap (by_size (λ n. n / 2 ^ Fq))
 
 -- ---- sizes for words: of an index that a data subpacket can carry
 
+pub carried_index : {M T v : ℕ} → Carried M T v → v < 2 ^ 31
+carried_index {M} {T} k = lt_of_lt_of_le k.below (pow_mono {i = M - T} {j = 31} (omega (arith, k.count)))
+
 module _ (q : Bool) {M T : ℕ} (i : ℤ) (k : Carried M T (nat_abs i)) where
   pub carried_small : nat_abs (coefficient_of q M T i) < 2 ^ 31
   carried_small = lt_of_lt_of_le (coefficient_small q M T i k.below) (pow_mono {j = 31} k.count)
