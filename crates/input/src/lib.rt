@@ -99,7 +99,8 @@ pub fn each_file<F: Fn(&str, Option<&[u8]>) -> io::Result<()>>(
     Ok(())
 }
 
-// What `text` makes of a stream of at most 16,384 bytes goes to standard output. Of a longer one that says only that it is too long.
+// What `text` makes of a stream of at most 16,384 bytes goes to standard output. Of a longer one that says only that it is too long. Where that
+// succeeds, the text was made of this stream.
 pub fn print_text<F: Fn(&[u8], &mut [u8]) -> usize>(
     rt: &impl Print,
     stream: &[u8],
@@ -107,6 +108,7 @@ pub fn print_text<F: Fn(&[u8], &mut [u8]) -> usize>(
 ) -> io::Result<()>
     requires taken { (given : _) (out : _) → length given.now ≤ 16384 → F.pre text given out }
     requires bounded { (given : _) (out : _) (size : _) (after : _) → F.post text given out size after → size ≤ length after.now }
+    ensures { IfOk result (λ _. length stream.now ≤ 16384 → (given : _) × (out : _) × (size : _) × (after : _) × (given.now ≡ stream.now) × F.post text given out size after) }
 {
     if 16384 < stream.len() {
         return println!(rt; "input too long");
